@@ -1,0 +1,75 @@
+-- Every number below n passes a test; the sum of a function below n. Assumes nothing.
+use mathlib.Core.Path.{_≡_, refl, sym}
+use mathlib.Core.Bool.{Bool, true, false, _&&_}
+use mathlib.Core.Logic.{⊎-elim}
+use Prim.Native.Nat.{ℕ, zero, suc, _+_, _≤_, _<_, min, max}
+use native.Mathlib.Nat.{eq-or-lt-of-le, le-of-suc-le-suc}
+use native.Mathlib.Numerals.{add-one}
+use native.Mathlib.Omega.{arith}
+use Rattle.laws.specs.Cases.{and-false, and-true}
+
+unfoldable pub allBelow : (ℕ → Bool) → ℕ → Bool
+allBelow f zero = true
+allBelow f (suc n) = allBelow f n && f n
+
+unfoldable pub sumBelow : (ℕ → ℕ) → ℕ → ℕ
+sumBelow f zero = 0
+sumBelow f (suc n) = sumBelow f n + f n
+
+not-below : {A : Type 0} (i : ℕ) → i < 0 → A
+not-below i h = absurd (none i h)
+  where
+    none : (i : ℕ) → i < 0 → ⊥
+    none i h = omega arith
+
+-- a number below n + 1 is n or below it
+last-or : {A : Type 0} {i n : ℕ} → i < suc n → (i ≡ n → A) → (i < n → A) → A
+last-or h a b = ⊎-elim a b (eq-or-lt-of-le (le-of-suc-le-suc h))
+
+module _ (f : ℕ → Bool) where
+  pub all-none : allBelow f 0 ≡ true
+  unfolding allBelow
+  all-none = refl
+
+  pub all-more : (i : ℕ) → allBelow f i ≡ true → f i ≡ true → allBelow f (i + 1) ≡ true
+  unfolding allBelow
+  all-more i p q = rw (add-one i, p, q)
+
+  pub all-fails : (n i : ℕ) → i < n → f i ≡ false → allBelow f n ≡ false
+  unfolding allBelow
+  all-fails zero i h q = not-below i h
+  all-fails (suc n) i h q =
+      last-or h (λ e. rw (sym e, q) (and-false (allBelow f i))) (λ l. rw (all-fails n i l q))
+
+  -- as a statement about every number
+  pub all-at : (n : ℕ) → allBelow f n ≡ true → (i : ℕ) → i < n → f i ≡ true
+  unfolding allBelow
+  all-at zero p i h = not-below i h
+  all-at (suc n) p i h =
+      let b = and-true (allBelow f n) (f n) p in
+      last-or h (λ e. rw e (b .1)) (λ l. all-at n (b .0) i l)
+
+module _ (f : ℕ → ℕ) where
+  pub sum-none : sumBelow f 0 ≡ 0
+  unfolding sumBelow
+  sum-none = refl
+
+  pub sum-more : (i : ℕ) → sumBelow f (i + 1) ≡ sumBelow f i + f i
+  unfolding sumBelow
+  sum-more i = rw (add-one i)
+
+  -- a part of a sum is at most the sum
+  pub sum-part : (n i : ℕ) → i < n → sumBelow f i + f i ≤ sumBelow f n
+  unfolding sumBelow
+  sum-part zero i h = not-below i h
+  sum-part (suc n) i h =
+      last-or h (λ e. rw e (omega arith)) (λ l. omega (arith, sum-part n i l))
+
+-- the largest, and the smallest but for a, of f 0 .. f (n - 1)
+unfoldable pub maxBelow : (ℕ → ℕ) → ℕ → ℕ
+maxBelow f zero = 0
+maxBelow f (suc n) = max (maxBelow f n) (f n)
+
+unfoldable pub minBelow : ℕ → (ℕ → ℕ) → ℕ → ℕ
+minBelow a f zero = a
+minBelow a f (suc n) = min (minBelow a f n) (f n)

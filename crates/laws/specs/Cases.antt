@@ -1,0 +1,24 @@
+-- Cases of a test, of an order and of a conjunction. Assumes nothing.
+use mathlib.Core.Path.{_≡_, refl}
+use mathlib.Core.Bool.{Bool, true, false, _&&_}
+use mathlib.Core.Logic.{_⊎_, inl, inr, ⊎-elim}
+use Prim.Native.Nat.{ℕ, zero, suc, _≤_, _<_, zero-le, suc-le-suc}
+
+-- one number is at most the other, or above it
+pub le-or-lt : (a b : ℕ) → (a ≤ b) ⊎ (b < a)
+le-or-lt zero b = inl zero-le
+le-or-lt (suc a) zero = inr (suc-le-suc zero-le)
+le-or-lt (suc a) (suc b) = ⊎-elim (λ p. inl (suc-le-suc p)) (λ q. inr (suc-le-suc q)) (le-or-lt a b)
+
+-- a test is true or false, and says so
+pub split : {C : Type 0} (t : Bool) → (t ≡ true → C) → (t ≡ false → C) → C
+split true yes? no? = yes? refl
+split false yes? no? = no? refl
+
+pub and-false : (a : Bool) → (a && false) ≡ false
+and-false true = refl
+and-false false = refl
+
+pub and-true : (a b : Bool) → (a && b) ≡ true → (a ≡ true) × (b ≡ true)
+and-true true b p = (refl, p)
+and-true false b p = (p, cc)

@@ -1,0 +1,24 @@
+-- Laws about numbers, lists and loops that the layers above cite. Each file is one topic; the order is that of reading.
+pub mod Cases
+pub mod Determined
+pub mod Numbers
+pub mod Ceiling
+pub mod Gather
+pub mod Axis
+pub mod Spans
+pub mod Stride
+pub mod Corners
+pub mod Counter
+pub mod Lists
+pub mod Gathered
+pub mod Axes
+pub mod Members
+pub mod Nest
+pub mod NestOnce
+pub mod NestResume
+pub mod NestStride
+pub mod Below
+pub mod Runs
+pub mod Listing
+pub mod AllRuns
+pub mod RunLoop

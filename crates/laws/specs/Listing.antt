@@ -1,0 +1,174 @@
+-- What is listed: each index once, and the marks that are left. Assumes nothing.
+use mathlib.Core.Path.{_≡_, refl, sym, ap, _∙_}
+use mathlib.Core.List.{List, [], _∷_, _++_, map, List·Memᴰ as In, List·Memᴰ·head as here, List·Memᴰ·tail as there, List·Memᴰ·not-nil as not-in-nil, List·Memᴰ·cases-cons as in-cons}
+use mathlib.Core.Logic.{⊎-elim}
+use Prim.Native.Nat.{ℕ, _<_}
+use native.Mathlib.Decide.{ℕ-discrete}
+use native.Mathlib.Omega.{arith}
+use lib.ListN.{length, getD, set, length-set}
+use lib.Seq.{getD-set-same, getD-set-other, ext-getD}
+use borrow.Author.Tests.{eqb-true, eqb-false}
+use Rattle.laws.specs.Cases.{split}
+use Rattle.laws.specs.Lists.{NoRepeats, none, more, Rearranged, same-elements, decIn}
+use Rattle.laws.specs.Runs.{free, mark, unlisted, unlisted-free, unlisted-taken, marked}
+
+module _ {P : Type 0} (ix : P → ℕ) where
+  -- the indexes
+  abbrev pub indexes : List P → List ℕ
+  indexes ps = map ix ps
+
+  -- every position has a mark
+  abbrev pub Fits : List ℕ → List P → Type 0
+  Fits m ps = (i : ℕ) → In i (indexes ps) → i < length m
+
+  fits-mark : (m : List ℕ) (p : P) (ps : List P) → Fits m (p ∷ ps) → Fits (mark ix m p) ps
+  fits-mark m p ps f i h = rw (length-set m (ix p) 1) (f i (there h))
+
+  mark-self : (m : List ℕ) (p : P) (i : ℕ) → i < length m → i ≡ ix p → getD (mark ix m p) i 0 ≡ 1
+  mark-self m p i h e = rw e (getD-set-same m (ix p) 1 0 (rw e at h))
+
+  -- a mark once set stays
+  mark-kept : (m : List ℕ) (p : P) (i : ℕ) → i < length m → getD m i 0 ≡ 1 → getD (mark ix m p) i 0 ≡ 1
+  mark-kept m p i h e = kept (ℕ-discrete i (ix p))
+    where
+      kept : Dec (i ≡ ix p) → getD (mark ix m p) i 0 ≡ 1
+      kept (yes q) = mark-self m p i h q
+      kept (no n) = getD-set-other m (ix p) i 1 0 n ∙ e
+
+  pub length-marked : (m : List ℕ) (ps : List P) → length (marked ix m ps) ≡ length m
+  unfolding marked
+  length-marked m [] = refl
+  length-marked m (p ∷ ps) = length-marked (mark ix m p) ps ∙ length-set m (ix p) 1
+
+  marked-kept : (m : List ℕ) (ps : List P) (i : ℕ) → i < length m → getD m i 0 ≡ 1 → getD (marked ix m ps) i 0 ≡ 1
+  unfolding marked
+  marked-kept m [] i h e = e
+  marked-kept m (p ∷ ps) i h e = marked-kept (mark ix m p) ps i (rw (length-set m (ix p) 1) h) (mark-kept m p i h e)
+
+  -- the marks with those of ps set: 1 at the indexes of ps, and as before elsewhere
+  pub marked-in : (m : List ℕ) (ps : List P) (i : ℕ) → i < length m → In i (indexes ps) → getD (marked ix m ps) i 0 ≡ 1
+  unfolding marked
+  marked-in m [] i h q = absurd (not-in-nil q)
+  marked-in m (p ∷ ps) i h q =
+      let h' : i < length (mark ix m p) = rw (length-set m (ix p) 1) h in
+      ⊎-elim (λ e. marked-kept (mark ix m p) ps i h' (mark-self m p i h e)) (marked-in (mark ix m p) ps i h') (in-cons q)
+
+  pub marked-out : (m : List ℕ) (ps : List P) (i : ℕ) → (In i (indexes ps) → ⊥) → getD (marked ix m ps) i 0 ≡ getD m i 0
+  unfolding marked
+  marked-out m [] i n = refl
+  marked-out m (p ∷ ps) i n =
+      marked-out (mark ix m p) ps i (λ q. n (there q)) ∙ getD-set-other m (ix p) i 1 0 (λ e. n (here e))
+
+  -- an index is listed where its mark is 0, and only there
+  pub listed-of : (m : List ℕ) (ps : List P) (i : ℕ) → getD m i 0 ≡ 0 → In i (indexes ps) → In i (indexes (unlisted ix m ps))
+  listed-of m [] i z q = absurd (not-in-nil q)
+  listed-of m (p ∷ ps) i z q =
+      split (free ix m p)
+      (λ t. rw (unlisted-free ix m p ps t) (now (ℕ-discrete i (ix p)) (listed-of (mark ix m p) ps i)))
+      (λ t.
+      rw (unlisted-taken ix m p ps t)
+      (⊎-elim (λ e. absurd (eqb-false _ _ t (rw e at z))) (listed-of m ps i z) (in-cons q)))
+    where
+      now : Dec (i ≡ ix p) → (getD (mark ix m p) i 0 ≡ 0 → In i (indexes ps) → In i (indexes (unlisted ix (mark ix m p) ps)))
+          → In i (ix p ∷ indexes (unlisted ix (mark ix m p) ps))
+      now (yes e) go = here e
+      now (no n) go =
+          there (go (getD-set-other m (ix p) i 1 0 n ∙ z) (⊎-elim (λ e. absurd (n e)) (λ j. j) (in-cons q)))
+
+  pub record Was (m : List ℕ) (ps : List P) (i : ℕ) : Type 0 where
+    pub zero-mark : getD m i 0 ≡ 0
+    pub member : In i (indexes ps)
+
+  pub listed-was : (m : List ℕ) (ps : List P) → Fits m ps → (i : ℕ) → In i (indexes (unlisted ix m ps)) → Was m ps i
+  unfolding unlisted
+  listed-was m [] f i q = absurd (not-in-nil q)
+  listed-was m (p ∷ ps) f i q =
+      split (free ix m p)
+      (λ t.
+      let q' : In i (ix p ∷ indexes (unlisted ix (mark ix m p) ps)) = rw (unlisted-free ix m p ps t) at q in
+      ⊎-elim
+      (λ e. record { zero-mark = rw e (eqb-true _ _ t); member = here e })
+      (λ j. old (listed-was (mark ix m p) ps (fits-mark m p ps f) i j))
+      (in-cons q'))
+      (λ t. later (listed-was m ps (λ k z. f k (there z)) i (rw (unlisted-taken ix m p ps t) at q)))
+    where
+      later : Was m ps i → Was m (p ∷ ps) i
+      later w = record { zero-mark = w .zero-mark; member = there (w .member) }
+
+      old : Was (mark ix m p) ps i → Was m (p ∷ ps) i
+      old w = record { zero-mark = same-mark (ℕ-discrete i (ix p)); member = there (w .member) }
+        where
+          same-mark : Dec (i ≡ ix p) → getD m i 0 ≡ 0
+          same-mark (yes e) = absurd (let z = mark-self m p i (f i (there (w .member))) e in let y = w .zero-mark in let n : ⊥ = omega arith in n)
+          same-mark (no n) = sym (getD-set-other m (ix p) i 1 0 n) ∙ w .zero-mark
+
+  -- each index is listed at most once
+  pub listed-once : (m : List ℕ) (ps : List P) → Fits m ps → NoRepeats (indexes (unlisted ix m ps))
+  unfolding unlisted
+  listed-once m [] f = none
+  listed-once m (p ∷ ps) f =
+      split (free ix m p)
+      (λ t. rw (unlisted-free ix m p ps t) (more not-again (listed-once (mark ix m p) ps (fits-mark m p ps f))))
+      (λ t. rw (unlisted-taken ix m p ps t) (listed-once m ps (λ i q. f i (there q))))
+    where
+      not-again : In (ix p) (indexes (unlisted ix (mark ix m p) ps)) → ⊥
+      not-again q =
+          let w = listed-was (mark ix m p) ps (fits-mark m p ps f) (ix p) q in
+          let y = w .zero-mark in
+          let z = mark-self m p (ix p) (f (ix p) (here refl)) refl in
+          omega arith
+
+  -- listing two lists in turn is listing their join
+  pub unlisted-append : (m : List ℕ) (ps qs : List P)
+      → unlisted ix m (ps ++ qs) ≡ unlisted ix m ps ++ unlisted ix (marked ix m (unlisted ix m ps)) qs
+  unfolding unlisted marked
+  unlisted-append m [] qs = refl
+  unlisted-append m (p ∷ ps) qs =
+      split (free ix m p)
+      (λ t. unlisted-free ix m p (ps ++ qs) t ∙ ap (λ (l : List P). p ∷ l) (unlisted-append (mark ix m p) ps qs) ∙ joined (sym (unlisted-free ix m p ps t)))
+      (λ t. unlisted-taken ix m p (ps ++ qs) t ∙ unlisted-append m ps qs ∙ joined (sym (unlisted-taken ix m p ps t)))
+    where
+      joined : {l k : List P} → l ≡ k → l ++ unlisted ix (marked ix m l) qs ≡ k ++ unlisted ix (marked ix m k) qs
+      joined e = ap (λ (l : List P). l ++ unlisted ix (marked ix m l) qs) e
+
+  pub marked-append : (m : List ℕ) (ps qs : List P) → marked ix m (ps ++ qs) ≡ marked ix (marked ix m ps) qs
+  unfolding marked
+  marked-append m [] qs = refl
+  marked-append m (p ∷ ps) qs = marked-append (mark ix m p) ps qs
+
+  pub unlisted-within : (m : List ℕ) (ps : List P) (p : P) → In p (unlisted ix m ps) → In p ps
+  unfolding unlisted
+  unlisted-within m [] p q = q
+  unlisted-within m (x ∷ ps) p q =
+      split (free ix m x)
+      (λ t. ⊎-elim here (λ k. there (unlisted-within (mark ix m x) ps p k)) (in-cons (rw (unlisted-free ix m x ps t) at q)))
+      (λ t. there (unlisted-within m ps p (rw (unlisted-taken ix m x ps t) at q)))
+
+  listed-too : (m : List ℕ) (ps qs : List P) → Fits m ps → ((i : ℕ) → In i (indexes ps) → In i (indexes qs))
+      → (i : ℕ) → In i (indexes (unlisted ix m ps)) → In i (indexes (unlisted ix m qs))
+  listed-too m ps qs f to i q = let w = listed-was m ps f i q in listed-of m qs i (w .zero-mark) (to i (w .member))
+
+  -- two lists of positions with the same indexes
+  module _ (m : List ℕ) (ps qs : List P) (f : Fits m ps)
+      (to : (i : ℕ) → In i (indexes ps) → In i (indexes qs)) (from : (i : ℕ) → In i (indexes qs) → In i (indexes ps)) where
+    fits-too : Fits m qs
+    fits-too i q = f i (from i q)
+
+    -- the indexes listed of the one are a rearrangement of those listed of the other
+    pub same-listed : Rearranged (indexes (unlisted ix m ps)) (indexes (unlisted ix m qs))
+    same-listed =
+        same-elements _ (listed-once m ps f) (listed-once m qs fits-too) (listed-too m ps qs f to) (listed-too m qs ps fits-too from)
+
+    -- and the marks that are left are equal
+    pub same-marks : marked ix m (unlisted ix m ps) ≡ marked ix m (unlisted ix m qs)
+    same-marks =
+        ext-getD 0 _ _ (length-marked m (unlisted ix m ps) ∙ sym (length-marked m (unlisted ix m qs)))
+        (λ i h. at-index i (rw (length-marked m (unlisted ix m ps)) at h) (decIn ℕ-discrete i (indexes (unlisted ix m ps))))
+      where
+        at-index : (i : ℕ) → i < length m → Dec (In i (indexes (unlisted ix m ps)))
+            → getD (marked ix m (unlisted ix m ps)) i 0 ≡ getD (marked ix m (unlisted ix m qs)) i 0
+        at-index i h (yes q) =
+            marked-in m (unlisted ix m ps) i h q ∙ sym (marked-in m (unlisted ix m qs) i h (listed-too m ps qs f to i q))
+        at-index i h (no n) =
+            marked-out m (unlisted ix m ps) i n
+            ∙ sym (marked-out m (unlisted ix m qs) i (λ q. n (listed-too m qs ps fits-too from i q)))

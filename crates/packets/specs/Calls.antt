@@ -1,0 +1,159 @@
+-- The calls: for every argument, refused or not, the answer and the later contents of everything lent.
+use Prim.Native.Nat.{ℕ, _-_, _*_}
+use mathlib.Core.Bool.{Bool, true, false}
+use mathlib.Core.List.{List, [], _∷_, map}
+use mathlib.Core.Option.{some, none}
+use lib.ListN.{length, replicate}
+use lib.Dec.{ltb, leb, eqb}
+use lib.IntN.{ℤ, pos, negsuc}
+use Rattle.laws.specs.Gather.{gather}
+use Rattle.laws.specs.Axis.{span}
+use Rattle.laws.specs.Lists.{behind}
+use Rattle.laws.specs.Runs.{Answer, Packet, Ended, seek, mark, marked}
+use Rattle.laws.specs.AllRuns.{joined, dedupe}
+use Rattle.geometry.specs.Precinct.{pick}
+use Rattle.packets.specs.State.{emptyState, freshCursor, endedCursor}
+use Rattle.words.specs.Words.{wordsBytes, over}
+use Rattle.packets.specs.Sheet.{readVerdict}
+use Rattle.packets.specs.Tile.{reported, needed, indexOf, tableBytes}
+use Rattle.packets.specs.Grid.{gridAgreed}
+use Rattle.packets.specs.Table.{sheetIn, tableOf}
+use Rattle.packets.specs.Answers.{SetUpSaid, OpenSaid, StepSaid}
+use Rattle.packets.specs.Sound.{stateSound, sound, positionsFor}
+use Rattle.packets.specs.Same.{same}
+use Rattle.packets.specs.declared.state.State.{State}
+use Rattle.packets.specs.declared.cursor.Position.{Position}
+use Rattle.packets.specs.declared.cursor.Place.{Place}
+use Rattle.packets.specs.declared.cursor.Place.the-variants as place
+use Rattle.packets.specs.declared.cursor.Cursor.{Cursor}
+
+-- 01: a refusal is its number, negated
+abbrev pub refusal : ℕ → ℤ
+refusal n = negsuc (n - 1)
+
+-- SETUP. What it answers and leaves
+pub record Setup : Type 0 where
+  pub said : SetUpSaid
+  pub table : List ℕ
+  pub marks : List ℕ
+
+abbrev pub pickSetup : Bool → Setup → Setup → Setup
+pickSetup true a b = a
+pickSetup false a b = b
+
+-- 01: -1, -2, -3 as the sheet is read, then -4 to -7 in order; 0 where there is no refusal
+unfoldable pub setupVerdict : List ℕ → List ℕ → List ℕ → ℕ
+setupVerdict sheet table marks =
+    let st : State = reported (sheetIn sheet) in
+    let v = readVerdict sheet in
+    let grid = gridAgreed (sheetIn sheet) in
+    let many = leb (needed st) 65536 in
+    pick (eqb v 0)
+    (pick grid (pick many (pick (leb (needed st) (length marks)) (pick (leb (tableBytes st) (length table)) 0 7) 6) 5) 4)
+    v
+
+-- 01: setup writes the table and clears the needed marks; what stands beyond is unchanged
+abbrev pub accepted : List ℕ → List ℕ → List ℕ → Setup
+accepted sheet table marks =
+    let st : State = reported (sheetIn sheet) in
+    record {
+      said = record { number = pos 0; state = st };
+      table = over (tableOf (sheetIn sheet)) table;
+      marks = over (replicate (needed st) 0) marks;
+    }
+
+-- 01: a refusal carries only its number, and nothing lent changes
+abbrev pub turnedAway : ℕ → List ℕ → List ℕ → Setup
+turnedAway n table marks = record { said = record { number = refusal n; state = emptyState }; table = table; marks = marks }
+
+unfoldable pub setupOf : List ℕ → List ℕ → List ℕ → Setup
+setupOf sheet table marks =
+    let v = setupVerdict sheet table marks in
+    pickSetup (eqb v 0) (accepted sheet table marks) (turnedAway v table marks)
+
+-- OPEN. 01: -9 is tested before -11; opening a progression again gives a fresh cursor over the marks as they are
+abbrev pub pickOpen : Bool → OpenSaid → OpenSaid → OpenSaid
+pickOpen true a b = a
+pickOpen false a b = b
+
+unfoldable pub openOf : State → List ℕ → List ℕ → ℕ → OpenSaid
+openOf st table marks k =
+    pickOpen (stateSound st table marks)
+    (pickOpen (ltb k (st .progressions))
+    (record { number = pos 0; cursor = some (freshCursor k) })
+    (record { number = refusal 11; cursor = none }))
+    (record { number = refusal 9; cursor = none })
+
+-- STEP. 01: a step searches after its cursor, in order
+abbrev pub after : Place → List Position → List Position
+after place.Fresh ps = ps
+after (place.At p) ps = behind same p ps
+after place.Ended ps = []
+
+pub record Step : Type 0 where
+  pub said : StepSaid
+  pub marks : List ℕ
+
+abbrev pub pickStep : Bool → Step → Step → Step
+pickStep true a b = a
+pickStep false a b = b
+
+-- 01: 1, the packet marked and returned with the moved cursor; or 0, the cursor is ended
+abbrev pub stepBy : State → List ℕ → ℕ → Answer Position → Step
+stepBy st marks k (Packet p) =
+    record { said = record { number = pos 1; packet = some p; cursor = record { progression = k; place = place.At p } }; marks = mark (indexOf st) marks p }
+stepBy st marks k Ended = record { said = record { number = pos 0; packet = none; cursor = endedCursor k }; marks = marks }
+
+-- 01: a refused step answers also the cursor as given
+unfoldable pub stepOf : State → List ℕ → List ℕ → Cursor → Step
+stepOf st table marks c =
+    let found = stepBy st marks (c .progression) (seek (indexOf st) marks (after (c .place) (positionsFor st table (c .progression)))) in
+    pickStep (sound st table marks c) found
+    (record { said = record { number = refusal 9; packet = none; cursor = c }; marks = marks })
+
+-- WHOLE RUN. What it answers and leaves
+pub record Run : Type 0 where
+  pub number : ℤ
+  pub table : List ℕ
+  pub marks : List ℕ
+  pub output : List ℕ
+
+abbrev pub pickRun : Bool → Run → Run → Run
+pickRun true a b = a
+pickRun false a b = b
+
+-- the plain loops of every progression in turn, one after the other, with a packet already listed left out
+unfoldable pub listed : State → List ℕ → List Position
+listed st table = dedupe (indexOf st) (joined (map (positionsFor st table) (span 0 (st .progressions))))
+
+-- 01: 16-byte records: layer, resolution, component, precinct, big-endian
+abbrev pub packetWords : Position → List ℕ
+packetWords p = p .layno ∷ p .resno ∷ p .compno ∷ p .precno ∷ []
+
+unfoldable pub recordsOf : List Position → List ℕ
+recordsOf ps = wordsBytes (gather packetWords ps)
+
+-- 01: then -8 for an output shorter than 16 bytes for each mark needed
+unfoldable pub runVerdict : List ℕ → List ℕ → List ℕ → List ℕ → ℕ
+runVerdict sheet table marks output =
+    let v = setupVerdict sheet table marks in
+    let room = leb (16 * needed (reported (sheetIn sheet))) (length output) in
+    pick (eqb v 0) (pick room 0 8) v
+
+-- 01: the whole run answers the count of its records; output beyond is unchanged
+unfoldable pub ranOver : Setup → List ℕ → Run
+ranOver u output =
+    let st : State = u .said .state in
+    let ps : List Position = listed st (u .table) in
+    record {
+      number = pos (length ps);
+      table = u .table;
+      marks = marked (indexOf st) (u .marks) ps;
+      output = over (recordsOf ps) output;
+    }
+
+unfoldable pub wholeRunOf : List ℕ → List ℕ → List ℕ → List ℕ → Run
+wholeRunOf sheet table marks output =
+    let v = runVerdict sheet table marks output in
+    let ran = ranOver (accepted sheet table marks) output in
+    pickRun (eqb v 0) ran (record { number = refusal v; table = table; marks = marks; output = output })

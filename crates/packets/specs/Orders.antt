@@ -1,0 +1,54 @@
+-- Orders by number, and the ranges of a progression (01, 'Ranges and orders').
+use Prim.Native.Nat.{ℕ, zero, suc, min}
+use mathlib.Core.Bool.{Bool, true, false, _&&_}
+use lib.Dec.{ltb, leb, eqb}
+use lib.IntN.{ℤ, pos, negsuc}
+use Rattle.packets.specs.declared.state.Progression.{Progression}
+use Rattle.packets.specs.declared.state.State.{State}
+
+-- T.800 B.12.1; `other` has no positions
+pub data Order : Type 0 where
+  lrcp : Order
+  rlcp : Order
+  rpcl : Order
+  pcrl : Order
+  cprl : Order
+  other : Order
+
+-- 01: order 0 is LRCP, 1 RLCP, 2 RPCL, 3 PCRL, 4 CPRL
+abbrev pub orderOf : ℤ → Order
+orderOf (pos zero) = lrcp
+orderOf (pos (suc zero)) = rlcp
+orderOf (pos (suc (suc zero))) = rpcl
+orderOf (pos (suc (suc (suc zero)))) = pcrl
+orderOf (pos (suc (suc (suc (suc zero))))) = cprl
+orderOf (pos (suc (suc (suc (suc (suc n)))))) = other
+orderOf (negsuc n) = other
+
+-- the ranges of the loops; ends are not included. Layers start at 0
+pub record Range : Type 0 where
+  pub layno1 : ℕ
+  pub resno0 : ℕ
+  pub resno1 : ℕ
+  pub compno0 : ℕ
+  pub compno1 : ℕ
+
+abbrev pub pickRange : Bool → Range → Range → Range
+pickRange true a b = a
+pickRange false a b = b
+
+-- 01: kind 5 sets everything: all layers, all components, resolutions up to the largest
+abbrev pub wholeTile : State → Range
+wholeTile st = record { layno1 = st .layers; resno0 = 0; resno1 = st .«max_res»; compno0 = 0; compno1 = st .components }
+
+-- 01: kind 4 sets layers 0 to min(layno1, layers)
+abbrev pub volume : State → Progression → Range
+volume st q =
+    record { layno1 = min (q .layno1) (st .layers); resno0 = q .resno0; resno1 = q .resno1; compno0 = q .compno0; compno1 = q .compno1 }
+
+unfoldable pub rangeOf : State → Progression → Range
+rangeOf st q = pickRange (eqb (q .kind) 5) (wholeTile st) (volume st q)
+
+-- 01: a progression with compno0 ≥ components or compno1 > components has no positions
+abbrev pub componentsGood : State → Range → Bool
+componentsGood st g = ltb (g .compno0) (st .components) && leb (g .compno1) (st .components)

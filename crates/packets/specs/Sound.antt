@@ -1,0 +1,103 @@
+-- Soundness (01, 'Sound means'), as a test that computes. `Meaning` says the same as a proposition.
+use Prim.Native.Nat.{ℕ, zero, suc, _+_, _-_}
+use mathlib.Core.Bool.{Bool, true, false, _&&_, _||_}
+use mathlib.Core.List.{List, [], _∷_}
+use lib.ListN.{length}
+use lib.Dec.{ltb, leb, eqb}
+use lib.IntN.{ℤ, pos, negsuc}
+use Rattle.laws.specs.Below.{allBelow}
+use Rattle.packets.specs.Sheet.{tileRange, componentRange, exponentRange, progressionRange}
+use Rattle.packets.specs.Tile.{Sheet, dxOf, dyOf, resOf, width, height, maxPrec, maxRes, dxMin, dyMin, needed, tableBytes}
+use Rattle.packets.specs.Grid.{everywhere, changeOf, gridAgreed}
+use Rattle.packets.specs.Positions.{positionsOf}
+use Rattle.packets.specs.Table.{entryWord, sheetAt}
+use Rattle.packets.specs.declared.state.Progression.{Progression}
+use Rattle.packets.specs.declared.state.State.{State}
+use Rattle.packets.specs.declared.cursor.Position.{Position}
+use Rattle.packets.specs.declared.cursor.Place.{Place}
+use Rattle.packets.specs.declared.cursor.Place.the-variants.{Fresh, At, Ended}
+use Rattle.packets.specs.declared.cursor.Cursor.{Cursor}
+
+-- 01: every rule and range holds. The tile record's
+abbrev pub tileGood : State → Bool
+tileGood st = tileRange (st .tx0) (st .ty0) (st .tx1) (st .ty1) (st .layers) (st .components) (st .progressions)
+
+-- the components', and nothing beyond the last
+unfoldable pub componentsSound : State → Bool
+componentsSound st =
+    allBelow (λ c. componentRange (dxOf st c) (dyOf st c) (resOf st c)) (st .components)
+    && allBelow (λ c. eqb (dxOf st (st .components + c)) 0 && (eqb (dyOf st (st .components + c)) 0 && eqb (resOf st (st .components + c)) 0)) (16 - st .components)
+
+abbrev pub isZero : ℤ → Bool
+isZero (pos zero) = true
+isZero (pos (suc n)) = false
+isZero (negsuc n) = false
+
+-- the words that kind 5 does not name are 0
+abbrev pub noRange : Progression → Bool
+noRange q = eqb (q .resno0) 0 && (eqb (q .compno0) 0 && (eqb (q .layno1) 0 && (eqb (q .resno1) 0 && eqb (q .compno1) 0)))
+
+-- the progressions': all of kind 4, or exactly one of kind 5; and nothing beyond the last
+abbrev pub progressionGood : State → Progression → Bool
+progressionGood st q =
+    (eqb (q .kind) 4 && progressionRange (q .resno0) (q .layno1) (q .resno1)) || (eqb (q .kind) 5 && (eqb (st .progressions) 1 && noRange q))
+
+unfoldable pub progressionsSound : State → Bool
+progressionsSound st =
+    allBelow (λ k. progressionGood st (changeOf st k)) (st .progressions)
+    && allBelow
+    (λ k. let q : Progression = changeOf st (st .progressions + k) in eqb (q .kind) 0 && (isZero (q .prg) && noRange q))
+    (32 - st .progressions)
+
+-- 01: the table is what setup writes
+unfoldable pub tableSound : State → List ℕ → Bool
+tableSound st table =
+    leb (tableBytes st) (length table)
+    && everywhere st
+    (λ c r.
+    exponentRange (entryWord st table 0 c r) (entryWord st table 1 c r)
+    && (eqb (entryWord st table 2 c r) (width (sheetAt st table) c r) && eqb (entryWord st table 3 c r) (height (sheetAt st table) c r)))
+
+-- 01: the numbers that setup reports are those its fields give
+unfoldable pub reportsSound : Sheet → Bool
+reportsSound s =
+    eqb (s .st .«max_prec») (maxPrec s) && (eqb (s .st .«max_res») (maxRes (s .st)) && (eqb (s .st .«dx_min») (dxMin s) && eqb (s .st .«dy_min») (dyMin s)))
+
+-- 01: at most 65,536 marks are needed, and the marks suffice
+abbrev pub marksSound : State → List ℕ → Bool
+marksSound st marks = leb (needed st) 65536 && leb (needed st) (length marks)
+
+-- 01: a state with its table and marks; opening has no cursor to test
+unfoldable pub stateSound : State → List ℕ → List ℕ → Bool
+stateSound st table marks =
+    tileGood st
+    && (componentsSound st
+    && (progressionsSound st
+    && (tableSound st table && (reportsSound (sheetAt st table) && (gridAgreed (sheetAt st table) && marksSound st marks)))))
+
+-- two positions are the same, and a position is one of a list
+abbrev pub samePosition : Position → Position → Bool
+samePosition p q =
+    eqb (p .layno) (q .layno)
+    && (eqb (p .resno) (q .resno) && (eqb (p .compno) (q .compno) && (eqb (p .precno) (q .precno) && (eqb (p .x) (q .x) && eqb (p .y) (q .y)))))
+
+unfoldable pub isIn : Position → List Position → Bool
+isIn p [] = false
+isIn p (q ∷ qs) = elim (samePosition p q) [ true ↦ true | false ↦ isIn p qs ]
+
+-- 01: a cursor is fresh, ended, or stands at a position which its progression admits, with the x and y where it is met
+abbrev pub placeSound : Place → List Position → Bool
+placeSound Fresh ps = true
+placeSound (At p) ps = isIn p ps
+placeSound Ended ps = true
+
+-- the positions of progression k of a state and its table
+abbrev pub positionsFor : State → List ℕ → ℕ → List Position
+positionsFor st table k = positionsOf (sheetAt st table) (changeOf st k)
+
+-- 01: the cursor names a progression of the sheet and is one of these three
+unfoldable pub cursorSound : State → List ℕ → Cursor → Bool
+cursorSound st table c = ltb (c .progression) (st .progressions) && placeSound (c .place) (positionsFor st table (c .progression))
+
+unfoldable pub sound : State → List ℕ → List ℕ → Cursor → Bool
+sound st table marks c = stateSound st table marks && cursorSound st table c

@@ -1,0 +1,122 @@
+// A sheet's fields as setup answers them, by value. Precinct exponents are not here: they stand in the table.
+ghost use mathlib.Core.Path.{_≡_};
+ghost use Rattle.packets.specs.State.{noProgression, emptyState};
+
+// A progression as its record has it. Names are those of opj_poc_t.
+pub struct Progression {
+    // 4, or 5 for one of the whole tile
+    pub kind: u32,
+    pub prg: i32,
+    pub resno0: u32,
+    pub compno0: u32,
+    pub layno1: u32,
+    pub resno1: u32,
+    pub compno1: u32,
+}
+
+pub struct State {
+    // the tile
+    pub tx0: u32,
+    pub ty0: u32,
+    pub tx1: u32,
+    pub ty1: u32,
+    pub layers: u32,
+    pub components: u32,
+    pub progressions: u32,
+    // of each component: its steps and the number of its resolutions; 0 beyond the last
+    pub dx: [u32; 16],
+    pub dy: [u32; 16],
+    pub resolutions: [u32; 16],
+    // the progressions in turn; all 0 beyond the last
+    pub changes: [Progression; 32],
+    // what setup reports: the largest precinct count and number of resolutions, and the smallest steps
+    pub max_prec: u32,
+    pub max_res: u32,
+    pub dx_min: u32,
+    pub dy_min: u32,
+}
+
+// The five orders of progression by their numbers (T.800, Table A.16).
+pub struct Order {}
+
+impl Order {
+    pub const LRCP: i32 = 0;
+
+    pub const RLCP: i32 = 1;
+
+    pub const RPCL: i32 = 2;
+
+    pub const PCRL: i32 = 3;
+
+    pub const CPRL: i32 = 4;
+}
+
+impl Progression {
+    // the kinds of record
+    pub const VOLUME: u32 = 4;
+
+    pub const WHOLE_TILE: u32 = 5;
+
+    pub const MAX_RESNO0: u32 = 32;
+
+    pub const MAX_RESNO1: u32 = 33;
+
+    // One with every number 0, which no sheet has.
+    pub fn none() -> Self
+        ensures { λ r. ⌜ r ≡ noProgression ⌝ }
+    {
+        Progression {
+            kind: 0,
+            prg: 0,
+            resno0: 0,
+            compno0: 0,
+            layno1: 0,
+            resno1: 0,
+            compno1: 0,
+        }
+    }
+}
+
+impl State {
+    pub const MAX_RECORDS: usize = 577;
+
+    pub const MAX_LAYERS: u32 = 65_535;
+
+    pub const MAX_COMPONENTS: u32 = 16;
+
+    pub const MAX_PROGRESSIONS: u32 = 32;
+
+    pub const MAX_STEP: u32 = 255;
+
+    pub const MAX_RESOLUTIONS: u32 = 33;
+
+    pub const MAX_EXPONENT: u32 = 15;
+
+    pub const MAX_MARKS: u32 = 65_536;
+
+    // The state that comes with a refusal: every number 0.
+    pub fn empty() -> Self
+        ensures { λ r. ⌜ r ≡ emptyState ⌝ }
+    {
+        let none = Progression::none();
+        let numbers = [0u32; 16];
+        let changes = [none; 32];
+        State {
+            tx0: 0,
+            ty0: 0,
+            tx1: 0,
+            ty1: 0,
+            layers: 0,
+            components: 0,
+            progressions: 0,
+            dx: numbers,
+            dy: numbers,
+            resolutions: numbers,
+            changes,
+            max_prec: 0,
+            max_res: 0,
+            dx_min: 0,
+            dy_min: 0,
+        }
+    }
+}

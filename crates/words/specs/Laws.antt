@@ -1,0 +1,127 @@
+-- Laws of big-endian words: what was written is read, one word more laid over a buffer, and what stands beyond. Assumes nothing.
+use mathlib.Core.Path.{_≡_, refl, sym, ap, _∙_}
+use mathlib.Core.Logic.{⊎-elim}
+use mathlib.Core.List.{List, [], _∷_, _++_, append-assoc}
+use Prim.Native.Nat.{ℕ, zero, suc, _+_, _*_, _/_, _%_, _^_, _≤_, _<_}
+use native.Mathlib.Nat.{suc-add, add-assoc}
+use native.Mathlib.Numerals.{add-one}
+use native.Mathlib.Omega.{arith}
+use lib.ListN.{length, getD, set, drop, length-append, length-set, length-drop}
+use lib.Seq.{getD-append-add, drop-cons}
+use lib.Dec.{leb}
+use borrow.Author.Tests.{le-leb, lt-leb}
+use Rattle.laws.specs.Cases.{le-or-lt, split}
+use Rattle.laws.specs.Gather.{gather, gather-append}
+use Rattle.words.specs.Words.{wordAt, putWord, bytesOf, wordsBytes, over}
+
+-- with room, and without
+module _ (s : List ℕ) (at : ℕ) where
+  pub word-room : at + 4 ≤ length s
+      → wordAt s at ≡ getD s at 0 * 2 ^ 24 + getD s (at + 1) 0 * 2 ^ 16 + getD s (at + 2) 0 * 2 ^ 8 + getD s (at + 3) 0
+  unfolding wordAt
+  word-room h = rw (le-leb _ _ h)
+
+  pub word-none : length s < at + 4 → wordAt s at ≡ 0
+  unfolding wordAt
+  word-none h = rw (lt-leb _ _ h)
+
+  module _ (w : ℕ) where
+    pub put-room : at + 4 ≤ length s
+        → putWord s at w ≡ set (set (set (set s at (w / 2 ^ 24)) (at + 1) (w / 2 ^ 16 % 2 ^ 8)) (at + 2) (w / 2 ^ 8 % 2 ^ 8)) (at + 3) (w % 2 ^ 8)
+    unfolding putWord
+    put-room h = rw (le-leb _ _ h)
+
+    pub put-none : length s < at + 4 → putWord s at w ≡ s
+    unfolding putWord
+    put-none h = rw (lt-leb _ _ h)
+
+-- the bytes of a word make it again
+pub bytes-word : (w : ℕ) (rest : List ℕ) → w < 2 ^ 32 → wordAt (bytesOf w ++ rest) 0 ≡ w
+unfolding wordAt
+bytes-word w rest h =
+    let room : 0 + 4 ≤ length (bytesOf w ++ rest) = omega arith in
+    rw (le-leb _ _ room) (omega arith)
+
+-- room behind the first bytes
+room-behind : (xs ys : List ℕ) (at : ℕ) → leb (length xs + at + 4) (length (xs ++ ys)) ≡ leb (at + 4) (length ys)
+room-behind xs ys at =
+    ⊎-elim
+    (λ (h : at + 4 ≤ length ys).
+    let k : length xs + at + 4 ≤ length (xs ++ ys) = rw (length-append xs ys) (omega arith) in
+    rw (le-leb _ _ h, le-leb _ _ k))
+    (λ (h : length ys < at + 4).
+    let k : length (xs ++ ys) < length xs + at + 4 = rw (length-append xs ys) (omega arith) in
+    rw (lt-leb _ _ h, lt-leb _ _ k))
+    (le-or-lt (at + 4) (length ys))
+
+-- a word behind the first bytes
+pub word-behind : (xs ys : List ℕ) (at : ℕ) → wordAt (xs ++ ys) (length xs + at) ≡ wordAt ys at
+unfolding wordAt
+word-behind xs ys at =
+    rw (room-behind xs ys at, add-assoc (length xs) at 1, add-assoc (length xs) at 2, add-assoc (length xs) at 3, getD-append-add xs ys at 0, getD-append-add xs ys (at + 1) 0, getD-append-add xs ys (at + 2) 0, getD-append-add xs ys (at + 3) 0)
+
+set-behind : (xs ys : List ℕ) (n v : ℕ) → set (xs ++ ys) (length xs + n) v ≡ xs ++ set ys n v
+set-behind [] ys n v = ap (λ (k : ℕ). set ys k v) (omega arith)
+set-behind (x ∷ xs) ys n v = rw (suc-add (length xs) n, set-behind xs ys n v)
+
+-- a word written behind the first bytes
+pub put-behind : (xs ys : List ℕ) (at w : ℕ) → putWord (xs ++ ys) (length xs + at) w ≡ xs ++ putWord ys at w
+unfolding putWord
+put-behind xs ys at w =
+    split (leb (at + 4) (length ys))
+    (λ t.
+    let k = room-behind xs ys at ∙ t in
+    rw (k, t, add-assoc (length xs) at 1, add-assoc (length xs) at 2, add-assoc (length xs) at 3)
+    (simp set-behind))
+    (λ t. let k = room-behind xs ys at ∙ t in rw (k, t))
+
+-- four bytes for each word
+pub bytes-length : (ws : List ℕ) → length (wordsBytes ws) ≡ 4 * length ws
+unfolding wordsBytes gather
+bytes-length [] = refl
+bytes-length (w ∷ ws) = let e = bytes-length ws in omega arith
+
+-- word i of some words, whatever follows them
+pub word-of : (ws rest : List ℕ) (i : ℕ) → i < length ws → getD ws i 0 < 2 ^ 32 → wordAt (wordsBytes ws ++ rest) (4 * i) ≡ getD ws i 0
+unfolding wordsBytes gather
+word-of [] rest i h k = omega arith
+word-of (w ∷ ws) rest zero h k = rw (append-assoc (bytesOf w) (wordsBytes ws) rest) (bytes-word w (wordsBytes ws ++ rest) k)
+word-of (w ∷ ws) rest (suc i) h k =
+    let e : 4 * suc i ≡ length (bytesOf w) + 4 * i = omega arith in
+    rw (append-assoc (bytesOf w) (wordsBytes ws) rest, e, word-behind (bytesOf w) (wordsBytes ws ++ rest) (4 * i)) (word-of ws rest i (omega arith) k)
+
+pub over-length : (new old : List ℕ) → length new ≤ length old → length (over new old) ≡ length old
+over-length new old h = simp (length-append, length-drop) (omega arith)
+
+-- what is left, one element after the other
+one : (l : List ℕ) (n : ℕ) → n < length l → drop n l ≡ getD l n 0 ∷ drop (n + 1) l
+one l n h = rw (add-one n) (drop-cons l n 0 h)
+
+four : (l : List ℕ) (n : ℕ) → n + 4 ≤ length l → drop n l ≡ getD l n 0 ∷ getD l (n + 1) 0 ∷ getD l (n + 2) 0 ∷ getD l (n + 3) 0 ∷ drop (n + 4) l
+four l n h =
+    let two : n + 1 + 1 ≡ n + 2 = omega arith in
+    let three : n + 2 + 1 ≡ n + 3 = omega arith in
+    let last : n + 3 + 1 ≡ n + 4 = omega arith in
+    rw (one l n (omega arith), one l (n + 1) (omega arith), two, one l (n + 2) (omega arith), three, one l (n + 3) (omega arith), last)
+
+-- a word written where four bytes stand
+put-four : (a b c d : ℕ) (rest : List ℕ) (w : ℕ) → putWord (a ∷ b ∷ c ∷ d ∷ rest) 0 w ≡ bytesOf w ++ rest
+unfolding putWord
+put-four a b c d rest w =
+    let room : 0 + 4 ≤ length (a ∷ b ∷ c ∷ d ∷ rest) = omega arith in
+    rw (le-leb _ _ room)
+
+pub words-more : (ws : List ℕ) (w : ℕ) → wordsBytes (ws ++ (w ∷ [])) ≡ wordsBytes ws ++ bytesOf w
+unfolding wordsBytes gather
+words-more ws w = gather-append bytesOf ws (w ∷ [])
+
+-- laying one word more over a buffer is writing it behind those laid
+pub over-more : (ws old : List ℕ) (w : ℕ) → 4 * length ws + 4 ≤ length old
+    → putWord (over (wordsBytes ws) old) (4 * length ws) w ≡ over (wordsBytes (ws ++ (w ∷ []))) old
+over-more ws old w h =
+    let new : List ℕ = wordsBytes ws in
+    let n : length new ≡ 4 * length ws = bytes-length ws in
+    let at : 4 * length ws ≡ length new + 0 = omega arith in
+    let room : length new + 4 ≤ length old = omega arith in
+    let laid : length (new ++ bytesOf w) ≡ length new + 4 = rw (length-append new (bytesOf w)) refl in
+    rw (words-more ws w, at, put-behind new (drop (length new) old) 0 w, four old (length new) room, put-four, laid, append-assoc new (bytesOf w) (drop (length new + 4) old))
