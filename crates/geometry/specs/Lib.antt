@@ -5,3 +5,4 @@ pub mod Tile
 pub mod Precinct
 pub mod Line
 pub mod Hits
+pub mod Raster

@@ -1,4 +1,4 @@
--- Every number below n passes a test; the sum of a function below n. Assumes nothing.
+-- Every number below n passes a test; the sum, the largest and the smallest of a function below n. Assumes nothing.
 use mathlib.Core.Path.{_≡_, refl, sym}
 use mathlib.Core.Bool.{Bool, true, false, _&&_}
 use mathlib.Core.Logic.{⊎-elim}
@@ -73,3 +73,52 @@ maxBelow f (suc n) = max (maxBelow f n) (f n)
 unfoldable pub minBelow : ℕ → (ℕ → ℕ) → ℕ → ℕ
 minBelow a f zero = a
 minBelow a f (suc n) = min (minBelow a f n) (f n)
+
+module _ (f : ℕ → ℕ) where
+  -- turn by turn
+  pub max-none : maxBelow f 0 ≡ 0
+  unfolding maxBelow
+  max-none = refl
+
+  pub max-more : (i : ℕ) → maxBelow f (i + 1) ≡ max (maxBelow f i) (f i)
+  unfolding maxBelow
+  max-more i = rw (add-one i)
+
+  -- the largest is at least each
+  pub max-at : (n i : ℕ) → i < n → f i ≤ maxBelow f n
+  unfolding maxBelow
+  max-at zero i h = not-below i h
+  max-at (suc n) i h = last-or h (λ e. rw e (omega arith)) (λ l. omega (arith, max-at n i l))
+
+  -- and at most what each is at most
+  pub max-least : (n m : ℕ) → ((i : ℕ) → i < n → f i ≤ m) → maxBelow f n ≤ m
+  unfolding maxBelow
+  max-least zero m h = omega arith
+  max-least (suc n) m h = omega (arith, h n (omega arith), max-least n m (λ i l. h i (omega arith)))
+
+module _ (a : ℕ) (f : ℕ → ℕ) where
+  -- turn by turn
+  pub min-none : minBelow a f 0 ≡ a
+  unfolding minBelow
+  min-none = refl
+
+  pub min-more : (i : ℕ) → minBelow a f (i + 1) ≡ min (minBelow a f i) (f i)
+  unfolding minBelow
+  min-more i = rw (add-one i)
+
+  -- the smallest is at most a and at most each
+  pub min-start : (n : ℕ) → minBelow a f n ≤ a
+  unfolding minBelow
+  min-start zero = omega arith
+  min-start (suc n) = omega (arith, min-start n)
+
+  pub min-at : (n i : ℕ) → i < n → minBelow a f n ≤ f i
+  unfolding minBelow
+  min-at zero i h = not-below i h
+  min-at (suc n) i h = last-or h (λ e. rw e (omega arith)) (λ l. omega (arith, min-at n i l))
+
+  -- and at least what a and each is at least
+  pub min-most : (n m : ℕ) → m ≤ a → ((i : ℕ) → i < n → m ≤ f i) → m ≤ minBelow a f n
+  unfolding minBelow
+  min-most zero m k h = omega arith
+  min-most (suc n) m k h = omega (arith, h n (omega arith), min-most n m k (λ i l. h i (omega arith)))

@@ -22,3 +22,6 @@ and-false false = refl
 pub and-true : (a b : Bool) → (a && b) ≡ true → (a ≡ true) × (b ≡ true)
 and-true true b p = (refl, p)
 and-true false b p = (p, cc)
+
+pub and-both : {a b : Bool} → a ≡ true → b ≡ true → (a && b) ≡ true
+and-both {a} {b} p q = rw (p, q)

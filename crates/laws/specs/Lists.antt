@@ -200,11 +200,3 @@ module _ {A : Type 0} (same : Discrete A) where
       ends-cons : Dec (a ≡ x) → (before : List A) × (xs ≡ before ++ behind a xs) → (before : List A) × (x ∷ xs ≡ before ++ behind a (x ∷ xs))
       ends-cons (yes e) r = (x ∷ [], ap (λ (l : List A). x ∷ l) (sym (behind-here a x xs e)))
       ends-cons (no n) r = (x ∷ r .0, ap (λ (l : List A). x ∷ l) (r .1 ∙ ap (λ (l : List A). r .0 ++ l) (sym (behind-there a x xs n))))
-
--- equality is decidable where the values can be coded
-pub discrete-by : {A B : Type 0} (code : A → B) (decode : B → A) → ((a : A) → decode (code a) ≡ a) → Discrete B → Discrete A
-discrete-by {A} code decode back same a b = by (same (code a) (code b))
-  where
-    by : Dec (code a ≡ code b) → Dec (a ≡ b)
-    by (yes e) = yes (sym (back a) ∙ ap decode e ∙ back b)
-    by (no n) = no (λ e. n (ap code e))

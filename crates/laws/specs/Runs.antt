@@ -148,13 +148,17 @@ module _ {P : Type 0} (same : Discrete P) (ix : P → ℕ) where
   toCome ps m (Packet p) = p ∷ unlisted ix (mark ix m p) (after same (at p) ps)
   toCome ps m Ended = []
 
+  -- what a search behind a cursor finds is a position of the list
+  pub found-in : (ps : List P) (m : List ℕ) (c : Cursor P) (p : P) → seek ix m (after same c ps) ≡ Packet p → In p ps
+  found-in ps m c p e = let w = after-ends same c ps in rw (w .1) (in-right (w .0) (seek-in ix m (after same c ps) p e))
+
   -- the cursor that a step answers is one of these, whatever it was before
   pub step-admits : (ps : List P) (m : List ℕ) (c : Cursor P) → Admits ps (stepOf ps m c .cursor)
   unfolding stepOf
   step-admits ps m c = admits (seek ix m (after same c ps)) refl
     where
       admits : (a : Answer P) → seek ix m (after same c ps) ≡ a → Admits ps (stepBy ix m a .cursor)
-      admits (Packet p) e = let w = after-ends same c ps in rw (w .1) (in-right (w .0) (seek-in ix m (after same c ps) p e))
+      admits (Packet p) e = found-in ps m c p e
       admits Ended e = tt
 
   module _ (ps : List P) (u : NoRepeats ps) where

@@ -11,6 +11,7 @@ use Rattle.packets.specs.Tile.{Sheet, dxOf, dyOf, resOf, width, height, 
 use Rattle.packets.specs.Grid.{everywhere, changeOf, gridAgreed}
 use Rattle.packets.specs.Positions.{positionsOf}
 use Rattle.packets.specs.Table.{entryWord, sheetAt}
+use Rattle.packets.specs.Same.{samePosition}
 use Rattle.packets.specs.declared.state.Progression.{Progression}
 use Rattle.packets.specs.declared.state.State.{State}
 use Rattle.packets.specs.declared.cursor.Position.{Position}
@@ -49,14 +50,14 @@ progressionsSound st =
     (λ k. let q : Progression = changeOf st (st .progressions + k) in eqb (q .kind) 0 && (isZero (q .prg) && noRange q))
     (32 - st .progressions)
 
--- 01: the table is what setup writes
-unfoldable pub tableSound : State → List ℕ → Bool
-tableSound st table =
-    leb (tableBytes st) (length table)
-    && everywhere st
-    (λ c r.
+-- 01: the table is what setup writes: exponents in range, and the width and height that follow from them
+unfoldable pub entrySound : State → List ℕ → ℕ → ℕ → Bool
+entrySound st table c r =
     exponentRange (entryWord st table 0 c r) (entryWord st table 1 c r)
-    && (eqb (entryWord st table 2 c r) (width (sheetAt st table) c r) && eqb (entryWord st table 3 c r) (height (sheetAt st table) c r)))
+    && (eqb (entryWord st table 2 c r) (width (sheetAt st table) c r) && eqb (entryWord st table 3 c r) (height (sheetAt st table) c r))
+
+unfoldable pub tableSound : State → List ℕ → Bool
+tableSound st table = leb (tableBytes st) (length table) && everywhere st (entrySound st table)
 
 -- 01: the numbers that setup reports are those its fields give
 unfoldable pub reportsSound : Sheet → Bool
@@ -75,12 +76,7 @@ stateSound st table marks =
     && (progressionsSound st
     && (tableSound st table && (reportsSound (sheetAt st table) && (gridAgreed (sheetAt st table) && marksSound st marks)))))
 
--- two positions are the same, and a position is one of a list
-abbrev pub samePosition : Position → Position → Bool
-samePosition p q =
-    eqb (p .layno) (q .layno)
-    && (eqb (p .resno) (q .resno) && (eqb (p .compno) (q .compno) && (eqb (p .precno) (q .precno) && (eqb (p .x) (q .x) && eqb (p .y) (q .y)))))
-
+-- a position is one of a list
 unfoldable pub isIn : Position → List Position → Bool
 isIn p [] = false
 isIn p (q ∷ qs) = elim (samePosition p q) [ true ↦ true | false ↦ isIn p qs ]

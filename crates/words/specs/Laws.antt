@@ -125,3 +125,15 @@ over-more ws old w h =
     let room : length new + 4 ≤ length old = omega arith in
     let laid : length (new ++ bytesOf w) ≡ length new + 4 = rw (length-append new (bytesOf w)) refl in
     rw (words-more ws w, at, put-behind new (drop (length new) old) 0 w, four old (length new) room, put-four, laid, append-assoc new (bytesOf w) (drop (length new + 4) old))
+
+-- bytes are below 256
+abbrev pub Bytes : List ℕ → Type 0
+Bytes s = (i : ℕ) → getD s i 0 < 256
+
+-- so a word is below 2^32
+pub word-small : (s : List ℕ) → Bytes s → (at : ℕ) → wordAt s at < 2 ^ 32
+word-small s small at =
+    ⊎-elim
+    (λ (h : at + 4 ≤ length s). rw (word-room s at h) (omega (arith, small at, small (at + 1), small (at + 2), small (at + 3))))
+    (λ (h : length s < at + 4). rw (word-none s at h) (omega arith))
+    (le-or-lt (at + 4) (length s))
