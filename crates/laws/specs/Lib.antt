@@ -26,6 +26,7 @@ pub mod Below
 pub mod Least
 pub mod Indexing
 pub mod Pointwise
+pub mod Means
 pub mod Runs
 pub mod Listing
 pub mod AllRuns

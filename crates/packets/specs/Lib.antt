@@ -30,6 +30,8 @@ pub mod Reading
 pub mod Fields
 pub mod Alike
 pub mod SetupSound
+pub mod Meaning
 pub mod Steps
 pub mod Host
 pub mod Run
+pub mod WholeRun

@@ -1,0 +1,261 @@
+-- What soundness means (01, 'Sound means'): the tests of `Sound` as plain facts, and that the tests are true exactly if the facts hold. Assumes nothing.
+use mathlib.Core.Path.{_≡_, refl}
+use mathlib.Core.Bool.{Bool, true, false, _&&_, false≢true}
+use mathlib.Core.List.{List, List·Memᴰ as In}
+use mathlib.Core.Logic.{_↔_, _⊎_}
+use Prim.Native.Nat.{ℕ, zero, suc, _%_, _≤_, _<_}
+use lib.ListN.{length}
+use lib.Dec.{eqb}
+use lib.IntN.{ℤ, pos, negsuc}
+use Rattle.laws.specs.Means.{Means, ltb-means, leb-means, eqb-means, means-by, and-means, or-means, all-means, from-means}
+use Rattle.packets.specs.State.{noProgression}
+use Rattle.packets.specs.Sheet.{within, componentRange}
+use Rattle.packets.specs.Tile.{Sheet, dxOf, dyOf, resOf, width, height, maxPrec, maxRes, dxMin, dyMin, needed, tableBytes}
+use Rattle.packets.specs.Orders.{Order, lrcp, rlcp, rpcl, pcrl, cprl, other, orderOf}
+use Rattle.packets.specs.Grid.{everywhere, stepX, stepY, smallest, stepsFit, stepsDivide, agreed, changeOf, gridAgreed}
+use Rattle.packets.specs.Table.{entryWord, sheetAt}
+use Rattle.packets.specs.Sound.{tileGood, componentsSound, isZero, noRange, progressionGood, progressionsSound, entrySound, tableSound, reportsSound, stateSound, placeSound, positionsFor, cursorSound, sound}
+use Rattle.packets.specs.Good.{Good}
+use Rattle.packets.specs.Inside.{is-in, in-is}
+use Rattle.packets.specs.declared.state.Progression.{Progression}
+use Rattle.packets.specs.declared.state.State.{State}
+use Rattle.packets.specs.declared.cursor.Position.{Position}
+use Rattle.packets.specs.declared.cursor.Place.{Place}
+use Rattle.packets.specs.declared.cursor.Place.the-variants.{Fresh, At, Ended}
+use Rattle.packets.specs.declared.cursor.Cursor.{Cursor}
+
+-- THE FACTS. From lo to hi, both included
+abbrev pub Between : ℕ → ℕ → ℕ → Type 0
+Between lo hi x = (lo ≤ x) × (x ≤ hi)
+
+-- 01, 'Ranges': the tile record's
+pub record TileIn (st : State) : Type 0 where
+  pub upward-x : st .tx0 ≤ st .tx1
+  pub upward-y : st .ty0 ≤ st .ty1
+  pub layers : Between 1 65535 (st .layers)
+  pub components : Between 1 16 (st .components)
+  pub progressions : Between 1 32 (st .progressions)
+
+-- a component's, and a place of the arrays that holds no component
+pub record ComponentIn (st : State) (c : ℕ) : Type 0 where
+  pub dx : Between 1 255 (dxOf st c)
+  pub dy : Between 1 255 (dyOf st c)
+  pub resolutions : Between 1 33 (resOf st c)
+
+pub record NoComponent (st : State) (c : ℕ) : Type 0 where
+  pub dx : dxOf st c ≡ 0
+  pub dy : dyOf st c ≡ 0
+  pub resolutions : resOf st c ≡ 0
+
+-- a progression of kind 4, whose prg and components may be anything
+pub record Volume (q : Progression) : Type 0 where
+  pub kind : q .kind ≡ 4
+  pub resno0 : q .resno0 ≤ 32
+  pub layno1 : q .layno1 ≤ 65535
+  pub resno1 : q .resno1 ≤ 33
+
+-- nothing is said but kind and prg
+pub record NoRange (q : Progression) : Type 0 where
+  pub resno0 : q .resno0 ≡ 0
+  pub compno0 : q .compno0 ≡ 0
+  pub layno1 : q .layno1 ≡ 0
+  pub resno1 : q .resno1 ≡ 0
+  pub compno1 : q .compno1 ≡ 0
+
+-- one of kind 5, which stands alone
+pub record WholeTile (st : State) (q : Progression) : Type 0 where
+  pub kind : q .kind ≡ 5
+  pub alone : st .progressions ≡ 1
+  pub blank : NoRange q
+
+-- an entry of the table is what setup writes
+pub record EntryIn (st : State) (table : List ℕ) (c r : ℕ) : Type 0 where
+  pub pdx : entryWord st table 0 c r ≤ 15
+  pub pdy : entryWord st table 1 c r ≤ 15
+  pub wide : entryWord st table 2 c r ≡ width (sheetAt st table) c r
+  pub high : entryWord st table 3 c r ≡ height (sheetAt st table) c r
+
+-- a fact of every resolution of every component
+abbrev pub Everywhere : State → (ℕ → ℕ → Type 0) → Type 0
+Everywhere st P = (c : ℕ) → c < st .components → (r : ℕ) → r < resOf st c → P c r
+
+-- 01, 'Agreed grid': every step fits 32 bits
+abbrev pub StepsFit : Sheet → Type 0
+StepsFit s = Everywhere (s .st) (λ c r. (stepX s c r ≤ 4294967295) × (stepY s c r ≤ 4294967295))
+
+-- and the smallest divides every step, on each axis
+abbrev pub StepsDivide : Sheet → Type 0
+StepsDivide s = Everywhere (s .st) (λ c r. (stepX s c r % smallest (stepX s) (s .st) ≡ 0) × (stepY s c r % smallest (stepY s) (s .st) ≡ 0))
+
+-- by the order; others than 2 to 4 are not tested
+abbrev pub AgreedFor : Sheet → Order → Type 0
+AgreedFor s lrcp = Unit
+AgreedFor s rlcp = Unit
+AgreedFor s rpcl = StepsFit s × StepsDivide s
+AgreedFor s pcrl = StepsFit s × StepsDivide s
+AgreedFor s cprl = StepsFit s
+AgreedFor s other = Unit
+
+-- A SOUND STATE, with its table and marks
+pub record Sound (st : State) (table marks : List ℕ) : Type 0 where
+  pub tile : TileIn st
+  pub component : (c : ℕ) → c < st .components → ComponentIn st c
+  pub component-beyond : (c : ℕ) → st .components ≤ c → c < 16 → NoComponent st c
+  pub progression : (k : ℕ) → k < st .progressions → Volume (changeOf st k) ⊎ WholeTile st (changeOf st k)
+  pub progression-beyond : (k : ℕ) → st .progressions ≤ k → k < 32 → changeOf st k ≡ noProgression
+  pub table-long : tableBytes st ≤ length table
+  pub entry : Everywhere st (EntryIn st table)
+  pub most : st .«max_prec» ≡ maxPrec (sheetAt st table)
+  pub deepest : st .«max_res» ≡ maxRes st
+  pub least-x : st .«dx_min» ≡ dxMin (sheetAt st table)
+  pub least-y : st .«dy_min» ≡ dyMin (sheetAt st table)
+  pub grid : (k : ℕ) → k < st .progressions → AgreedFor (sheetAt st table) (orderOf (changeOf st k .prg))
+  pub few : needed st ≤ 65536
+  pub marks-long : needed st ≤ length marks
+
+-- THE TESTS MEAN THE FACTS
+within-means : (lo hi x : ℕ) → Means (within lo hi x) (Between lo hi x)
+within-means lo hi x = and-means (leb-means lo x) (leb-means x hi)
+
+everywhere-means : (st : State) (f : ℕ → ℕ → Bool) {P : ℕ → ℕ → Type 0} → ((c r : ℕ) → Means (f c r) (P c r)) → Means (everywhere st f) (Everywhere st P)
+everywhere-means st f m = all-means _ (st .components) (λ c. all-means (f c) (resOf st c) (m c))
+
+isZero-means : (z : ℤ) → Means (isZero z) (z ≡ pos 0)
+isZero-means (pos zero) = (λ e. refl, λ e. refl)
+isZero-means (pos (suc n)) = (λ e. absurd (false≢true e), λ e. cc)
+isZero-means (negsuc n) = (λ e. absurd (false≢true e), λ e. cc)
+
+noRange-means : (q : Progression) → Means (noRange q) (NoRange q)
+noRange-means q =
+    means-by
+    (and-means (eqb-means (q .resno0) 0) (and-means (eqb-means (q .compno0) 0) (and-means (eqb-means (q .layno1) 0) (and-means (eqb-means (q .resno1) 0) (eqb-means (q .compno1) 0)))))
+    (λ w. search depth 12)
+    (λ w. search depth 12)
+
+blank-means : (q : Progression) → Means (eqb (q .kind) 0 && (isZero (q .prg) && noRange q)) (q ≡ noProgression)
+blank-means q =
+    means-by (and-means (eqb-means (q .kind) 0) (and-means (isZero-means (q .prg)) (noRange-means q)))
+    (λ w. let n = w .1 .1 in λ i. record { kind = w .0 i; prg = w .1 .0 i; resno0 = n .resno0 i; compno0 = n .compno0 i; layno1 = n .layno1 i; resno1 = n .resno1 i; compno1 = n .compno1 i })
+    (λ e. rw e (refl, (refl, record { resno0 = refl; compno0 = refl; layno1 = refl; resno1 = refl; compno1 = refl })))
+
+tile-means : (st : State) → Means (tileGood st) (TileIn st)
+tile-means st =
+    means-by
+    (and-means (leb-means (st .tx0) (st .tx1))
+    (and-means (leb-means (st .ty0) (st .ty1)) (and-means (within-means 1 65535 (st .layers)) (and-means (within-means 1 16 (st .components)) (within-means 1 32 (st .progressions))))))
+    (λ w. search depth 12)
+    (λ w. search depth 12)
+
+component-means : (st : State) (c : ℕ) → Means (componentRange (dxOf st c) (dyOf st c) (resOf st c)) (ComponentIn st c)
+component-means st c =
+    means-by (and-means (within-means 1 255 (dxOf st c)) (and-means (within-means 1 255 (dyOf st c)) (within-means 1 33 (resOf st c))))
+    (λ w. search depth 12)
+    (λ w. search depth 12)
+
+no-component-means : (st : State) (c : ℕ) → Means (eqb (dxOf st c) 0 && (eqb (dyOf st c) 0 && eqb (resOf st c) 0)) (NoComponent st c)
+no-component-means st c =
+    means-by (and-means (eqb-means (dxOf st c) 0) (and-means (eqb-means (dyOf st c) 0) (eqb-means (resOf st c) 0))) (λ w. search depth 12) (λ w. search depth 12)
+
+components-means : (st : State) → Means (componentsSound st) (((c : ℕ) → c < st .components → ComponentIn st c) × ((c : ℕ) → st .components ≤ c → c < 16 → NoComponent st c))
+unfolding componentsSound
+components-means st = and-means (all-means _ (st .components) (component-means st)) (from-means _ (st .components) 16 (no-component-means st))
+
+progression-means : (st : State) (q : Progression) → Means (progressionGood st q) (Volume q ⊎ WholeTile st q)
+progression-means st q =
+    or-means
+    (means-by (and-means (eqb-means (q .kind) 4) (and-means (leb-means (q .resno0) 32) (and-means (leb-means (q .layno1) 65535) (leb-means (q .resno1) 33)))) (λ w. search depth 12) (λ w. search depth 12))
+    (means-by (and-means (eqb-means (q .kind) 5) (and-means (eqb-means (st .progressions) 1) (noRange-means q))) (λ w. search depth 12) (λ w. search depth 12))
+
+progressions-means : (st : State)
+    → Means (progressionsSound st)
+    (((k : ℕ) → k < st .progressions → Volume (changeOf st k) ⊎ WholeTile st (changeOf st k)) × ((k : ℕ) → st .progressions ≤ k → k < 32 → changeOf st k ≡ noProgression))
+unfolding progressionsSound
+progressions-means st = and-means (all-means _ (st .progressions) (λ k. progression-means st (changeOf st k))) (from-means _ (st .progressions) 32 (λ k. blank-means (changeOf st k)))
+
+entry-means : (st : State) (table : List ℕ) (c r : ℕ) → Means (entrySound st table c r) (EntryIn st table c r)
+unfolding entrySound
+entry-means st table c r =
+    means-by
+    (and-means (and-means (leb-means (entryWord st table 0 c r) 15) (leb-means (entryWord st table 1 c r) 15))
+    (and-means (eqb-means (entryWord st table 2 c r) (width (sheetAt st table) c r)) (eqb-means (entryWord st table 3 c r) (height (sheetAt st table) c r))))
+    (λ w. record { pdx = w .0 .0; pdy = w .0 .1; wide = w .1 .0; high = w .1 .1 })
+    (λ w. ((w .pdx, w .pdy), (w .wide, w .high)))
+
+table-means : (st : State) (table : List ℕ) → Means (tableSound st table) ((tableBytes st ≤ length table) × Everywhere st (EntryIn st table))
+unfolding tableSound
+table-means st table = and-means (leb-means (tableBytes st) (length table)) (everywhere-means st (entrySound st table) (entry-means st table))
+
+fit-means : (s : Sheet) → Means (stepsFit s) (StepsFit s)
+unfolding stepsFit
+fit-means s = everywhere-means (s .st) _ (λ c r. and-means (leb-means (stepX s c r) 4294967295) (leb-means (stepY s c r) 4294967295))
+
+divide-means : (s : Sheet) → Means (stepsDivide s) (StepsDivide s)
+unfolding stepsDivide
+divide-means s =
+    everywhere-means (s .st) _ (λ c r. and-means (eqb-means (stepX s c r % smallest (stepX s) (s .st)) 0) (eqb-means (stepY s c r % smallest (stepY s) (s .st)) 0))
+
+agreed-means : (s : Sheet) (o : Order) → Means (agreed s o) (AgreedFor s o)
+agreed-means s lrcp = (λ e. tt, λ w. refl)
+agreed-means s rlcp = (λ e. tt, λ w. refl)
+agreed-means s rpcl = and-means (fit-means s) (divide-means s)
+agreed-means s pcrl = and-means (fit-means s) (divide-means s)
+agreed-means s cprl = fit-means s
+agreed-means s other = (λ e. tt, λ w. refl)
+
+grid-means : (s : Sheet) → Means (gridAgreed s) ((k : ℕ) → k < s .st .progressions → AgreedFor s (orderOf (changeOf (s .st) k .prg)))
+unfolding gridAgreed
+grid-means s = all-means _ (s .st .progressions) (λ k. agreed-means s (orderOf (changeOf (s .st) k .prg)))
+
+reports-means : (s : Sheet)
+    → Means (reportsSound s) ((s .st .«max_prec» ≡ maxPrec s) × ((s .st .«max_res» ≡ maxRes (s .st)) × ((s .st .«dx_min» ≡ dxMin s) × (s .st .«dy_min» ≡ dyMin s))))
+unfolding reportsSound
+reports-means s = and-means (eqb-means _ (maxPrec s)) (and-means (eqb-means _ (maxRes (s .st))) (and-means (eqb-means _ (dxMin s)) (eqb-means _ (dyMin s))))
+
+-- a state is sound exactly if these facts hold
+pub sound-means : (st : State) (table marks : List ℕ) → (stateSound st table marks ≡ true) ↔ Sound st table marks
+unfolding stateSound
+sound-means st table marks =
+    let s : Sheet = sheetAt st table in
+    means-by
+    (and-means (tile-means st)
+    (and-means (components-means st)
+    (and-means (progressions-means st)
+    (and-means (table-means st table) (and-means (reports-means s) (and-means (grid-means s) (and-means (leb-means (needed st) 65536) (leb-means (needed st) (length marks)))))))))
+    (λ w. search depth 24)
+    (λ w. search depth 24)
+
+-- 01: a cursor is fresh, ended, or stands at a position which its progression admits
+abbrev pub Admitted : Place → List Position → Type 0
+Admitted Fresh ps = Unit
+Admitted (At p) ps = In p ps
+Admitted Ended ps = Unit
+
+admitted-means : (p : Place) (ps : List Position) → Means (placeSound p ps) (Admitted p ps)
+admitted-means Fresh ps = (λ e. tt, λ w. refl)
+admitted-means (At p) ps = (is-in p ps, in-is p ps)
+admitted-means Ended ps = (λ e. tt, λ w. refl)
+
+-- a cursor is sound exactly if it names a progression of the sheet, at a place which that admits
+pub cursor-means : (st : State) (table : List ℕ) (c : Cursor)
+    → (cursorSound st table c ≡ true) ↔ ((c .progression < st .progressions) × Admitted (c .place) (positionsFor st table (c .progression)))
+unfolding cursorSound
+cursor-means st table c = and-means (ltb-means (c .progression) (st .progressions)) (admitted-means (c .place) (positionsFor st table (c .progression)))
+
+-- the test before a step: state and cursor
+pub all-sound-means : (st : State) (table marks : List ℕ) (c : Cursor)
+    → (sound st table marks c ≡ true) ↔ (Sound st table marks × ((c .progression < st .progressions) × Admitted (c .place) (positionsFor st table (c .progression))))
+unfolding sound
+all-sound-means st table marks c = and-means (sound-means st table marks) (cursor-means st table c)
+
+-- a sound state has what the theorems ask of a sheet
+pub sound-good : (st : State) (table marks : List ℕ) → stateSound st table marks ≡ true → Good (sheetAt st table)
+sound-good st table marks e =
+    let w = sound-means st table marks .0 e in
+    record {
+      upward-x = w .tile .upward-x;
+      upward-y = w .tile .upward-y;
+      step-x = λ c h. w .component c h .dx .0;
+      step-y = λ c h. w .component c h .dy .0;
+      most = w .most;
+      deepest = w .deepest;
+    }
