@@ -27,6 +27,7 @@ pub mod Least
 pub mod Indexing
 pub mod Pointwise
 pub mod Means
+pub mod Bounded
 pub mod Runs
 pub mod Listing
 pub mod AllRuns

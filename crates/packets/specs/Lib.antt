@@ -35,3 +35,9 @@ pub mod Steps
 pub mod Host
 pub mod Run
 pub mod WholeRun
+pub mod Accepted
+pub mod Written
+pub mod Rows
+pub mod Rebuilt
+pub mod Recovered
+pub mod Origin

@@ -138,7 +138,8 @@ blank-means q =
     (λ w. let n = w .1 .1 in λ i. record { kind = w .0 i; prg = w .1 .0 i; resno0 = n .resno0 i; compno0 = n .compno0 i; layno1 = n .layno1 i; resno1 = n .resno1 i; compno1 = n .compno1 i })
     (λ e. rw e (refl, (refl, record { resno0 = refl; compno0 = refl; layno1 = refl; resno1 = refl; compno1 = refl })))
 
-tile-means : (st : State) → Means (tileGood st) (TileIn st)
+-- the tile's ranges
+pub tile-means : (st : State) → Means (tileGood st) (TileIn st)
 tile-means st =
     means-by
     (and-means (leb-means (st .tx0) (st .tx1))
@@ -146,7 +147,8 @@ tile-means st =
     (λ w. search depth 12)
     (λ w. search depth 12)
 
-component-means : (st : State) (c : ℕ) → Means (componentRange (dxOf st c) (dyOf st c) (resOf st c)) (ComponentIn st c)
+-- a component's ranges
+pub component-means : (st : State) (c : ℕ) → Means (componentRange (dxOf st c) (dyOf st c) (resOf st c)) (ComponentIn st c)
 component-means st c =
     means-by (and-means (within-means 1 255 (dxOf st c)) (and-means (within-means 1 255 (dyOf st c)) (within-means 1 33 (resOf st c))))
     (λ w. search depth 12)
@@ -202,7 +204,8 @@ agreed-means s pcrl = and-means (fit-means s) (divide-means s)
 agreed-means s cprl = fit-means s
 agreed-means s other = (λ e. tt, λ w. refl)
 
-grid-means : (s : Sheet) → Means (gridAgreed s) ((k : ℕ) → k < s .st .progressions → AgreedFor s (orderOf (changeOf (s .st) k .prg)))
+-- the agreed grid
+pub grid-means : (s : Sheet) → Means (gridAgreed s) ((k : ℕ) → k < s .st .progressions → AgreedFor s (orderOf (changeOf (s .st) k .prg)))
 unfolding gridAgreed
 grid-means s = all-means _ (s .st .progressions) (λ k. agreed-means s (orderOf (changeOf (s .st) k .prg)))
 

@@ -1,0 +1,160 @@
+-- Where a sound state comes from: it is what setup answers for some sheet, and what setup answers is sound. Assumes nothing.
+use mathlib.Core.Path.{_≡_, refl, sym, ap, _∙_}
+use mathlib.Core.Bool.{Bool, true, false}
+use mathlib.Core.List.{List, _++_}
+use mathlib.Core.Logic.{_↔_}
+use Prim.Native.Nat.{ℕ, _-_, _≤_}
+use native.Mathlib.Omega.{arith}
+use lib.ListN.{length, take, drop, take-append-drop}
+use lib.Seq.{take-at}
+use lib.Dec.{leb, eqb}
+use lib.IntN.{pos, negsuc}
+use borrow.Author.Tests.{le-leb, leb-true, eqb-true, eqb-false}
+use Rattle.laws.specs.Cases.{split}
+use Rattle.geometry.specs.Precinct.{pick}
+use Rattle.words.specs.Words.{over}
+use Rattle.words.specs.Laws.{Bytes}
+use Rattle.packets.specs.Sheet.{readVerdict, fieldsOf}
+use Rattle.packets.specs.Tile.{Sheet, reported, needed, entriesBefore, tableBytes}
+use Rattle.packets.specs.Grid.{gridAgreed}
+use Rattle.packets.specs.Table.{tableOf, sheetAt, sheetIn}
+use Rattle.packets.specs.Sound.{stateSound}
+use Rattle.packets.specs.Calls.{Setup, setupVerdict, accepted, setupOf}
+use Rattle.packets.specs.Accepted.{read-means}
+use Rattle.packets.specs.SetupSound.{setup-sound}
+use Rattle.packets.specs.Readback.{table-length}
+use Rattle.packets.specs.Meaning.{sound-means}
+use Rattle.packets.specs.Written.{written}
+use Rattle.packets.specs.Rebuilt.{Formed, reads, bytes-fit}
+use Rattle.packets.specs.Recovered.{answers, agrees, table-back}
+use Rattle.packets.specs.declared.state.State.{State}
+
+-- a state and a table are what setup answers and writes for the sheet b, which it accepts for marks of this length
+pub record SetUpFrom (st : State) (table marks b : List ℕ) : Type 0 where
+  pub bytes : Bytes b
+  pub accepted : readVerdict b ≡ 0
+  pub agreed : gridAgreed (sheetIn b) ≡ true
+  pub few : needed st ≤ 65536
+  pub marks-long : needed st ≤ length marks
+  pub table-long : tableBytes st ≤ length table
+  pub answered : st ≡ reported (sheetIn b)
+  pub filled : take (tableBytes st) table ≡ tableOf (sheetIn b)
+
+-- a sound state and its table are what setup answers and writes for some sheet
+pub sound-from : (st : State) (table marks : List ℕ) → Formed st → Bytes table → stateSound st table marks ≡ true → (b : List ℕ) × SetUpFrom st table marks b
+sound-from st table marks formed bytes e =
+    let sound = sound-means st table marks .0 e in (
+      written (sheetAt st table),
+      record {
+        bytes = bytes-fit st table marks formed sound;
+        accepted = read-means _ .1 (reads st table marks formed sound);
+        agreed = agrees st table marks formed sound;
+        few = sound .few;
+        marks-long = sound .marks-long;
+        table-long = sound .table-long;
+        answered = answers st table marks formed sound;
+        filled = table-back st table marks formed sound bytes;
+      },
+    )
+
+-- the table written for the state's sheet has the state's length, and lies there already
+module _ (st : State) (table b : List ℕ) (answered : st ≡ reported (sheetIn b)) where
+  table-size : length (tableOf (sheetIn b)) ≡ tableBytes st
+  table-size =
+      let same : tableBytes (fieldsOf b) ≡ tableBytes st = rw answered (unfold reported entriesBefore in refl) in
+      table-length (sheetIn b) ∙ same
+
+  laid : take (tableBytes st) table ≡ tableOf (sheetIn b) → over (tableOf (sheetIn b)) table ≡ table
+  laid e =
+      ap (λ (n : ℕ). tableOf (sheetIn b) ++ drop n table) table-size
+      ∙ ap (λ (l : List ℕ). l ++ drop (tableBytes st) table) (sym e) ∙ take-append-drop (tableBytes st) table
+
+  lies : over (tableOf (sheetIn b)) table ≡ table → take (tableBytes st) table ≡ tableOf (sheetIn b)
+  lies e = ap (λ (l : List ℕ). take (tableBytes st) l) (sym e) ∙ take-at (tableOf (sheetIn b)) (drop (length (tableOf (sheetIn b))) table) (tableBytes st) table-size
+
+-- and what setup answers and writes is sound
+pub from-sound : (st : State) (table marks b : List ℕ) → SetUpFrom st table marks b → stateSound st table marks ≡ true
+from-sound st table marks b f =
+    let s : Sheet = sheetIn b in
+    let room : tableBytes (fieldsOf b) ≤ length table = rw (← (table-length s), table-size st table b (f .answered)) (f .table-long) in
+    let w : stateSound (reported s) (over (tableOf s) table) marks ≡ true
+    = setup-sound b (f .bytes) (read-means b .0 (f .accepted)) table room marks (f .agreed) (rw (f .answered) at (f .few)) (rw (f .answered) at (f .marks-long)) in
+    let there = sym (laid st table b (f .answered) (f .filled)) in
+    (λ i. stateSound (f .answered i) (there i) marks) ∙ w
+
+-- A STATE AND A TABLE ARE SOUND EXACTLY IF SOME ACCEPTED SHEET'S SETUP ANSWERS THAT STATE AND WRITES THOSE WORDS
+pub sound-origin : (st : State) (table marks : List ℕ) → Formed st → Bytes table → (stateSound st table marks ≡ true) ↔ ((b : List ℕ) × SetUpFrom st table marks b)
+sound-origin st table marks formed bytes = (sound-from st table marks formed bytes, λ f. from-sound st table marks (f .0) (f .1))
+
+-- THE SAME OF THE CALL: setup, lent this table and these marks, accepts the sheet b, answers the state and finds its words in the table already
+pub record SetUpBy (st : State) (table marks b : List ℕ) : Type 0 where
+  pub bytes : Bytes b
+  pub accepts : setupOf b table marks .said .number ≡ pos 0
+  pub answers : setupOf b table marks .said .state ≡ st
+  pub writes : setupOf b table marks .table ≡ table
+
+-- a choice that gives 0 passed its test, where failing it gives another number
+pick-zero : (t : Bool) (a n : ℕ) → (t ≡ false → n ≡ 0 → ⊥) → pick t a n ≡ 0 → (t ≡ true) × (a ≡ 0)
+pick-zero true a n h e = (refl, e)
+pick-zero false a n h e = absurd (h refl e)
+
+module _ (st : State) (table marks b : List ℕ) where
+  abbrev v : ℕ
+  v = setupVerdict b table marks
+
+  taken : v ≡ 0 → setupOf b table marks ≡ accepted b table marks
+  unfolding setupOf
+  taken e = rw e
+
+  none-refused : setupOf b table marks .said .number ≡ pos 0 → v ≡ 0
+  unfolding setupOf
+  none-refused e = split (eqb v 0) (λ t. eqb-true v 0 t) (λ t. let z : negsuc (v - 1) ≡ pos 0 = rw t at e in cc)
+
+  passed : SetUpFrom st table marks b → v ≡ 0
+  unfolding setupVerdict
+  passed f =
+      let few = rw (f .answered) at (f .few) in
+      let marks-long = rw (f .answered) at (f .marks-long) in
+      let table-long = rw (f .answered) at (f .table-long) in
+      rw (f .accepted, f .agreed, le-leb _ _ few, le-leb _ _ marks-long, le-leb _ _ table-long)
+
+  -- what the call says, and what is tested: each from the other
+  pub from-call : SetUpBy st table marks b → SetUpFrom st table marks b
+  unfolding setupVerdict
+  from-call f =
+      let z : v ≡ 0 = none-refused (f .accepts) in
+      let e : accepted b table marks ≡ setupOf b table marks = sym (taken z) in
+      let t : State = reported (sheetIn b) in
+      let there : t ≡ st = ap (λ (r : Setup). r .said .state) e ∙ f .answers in
+      let read = pick-zero (eqb (readVerdict b) 0) _ (readVerdict b) (eqb-false (readVerdict b) 0) z in
+      let grid = pick-zero (gridAgreed (sheetIn b)) _ 4 (λ t n. omega arith) (read .1) in
+      let few = pick-zero (leb (needed t) 65536) _ 5 (λ t n. omega arith) (grid .1) in
+      let many = pick-zero (leb (needed t) (length marks)) _ 6 (λ t n. omega arith) (few .1) in
+      let long = pick-zero (leb (tableBytes t) (length table)) 0 7 (λ t n. omega arith) (many .1) in
+      record {
+        bytes = f .bytes;
+        accepted = eqb-true (readVerdict b) 0 (read .0);
+        agreed = grid .0;
+        few = rw there at (leb-true (needed t) 65536 (few .0));
+        marks-long = rw there at (leb-true (needed t) (length marks) (many .0));
+        table-long = rw there at (leb-true (tableBytes t) (length table) (long .0));
+        answered = sym there;
+        filled = lies st table b (sym there) (ap (λ (r : Setup). r .table) e ∙ f .writes);
+      }
+
+  pub call-from : SetUpFrom st table marks b → SetUpBy st table marks b
+  call-from f =
+      let e = taken (passed f) in
+      record {
+        bytes = f .bytes;
+        accepts = ap (λ (r : Setup). r .said .number) e;
+        answers = ap (λ (r : Setup). r .said .state) e ∙ sym (f .answered);
+        writes = ap (λ (r : Setup). r .table) e ∙ laid st table b (f .answered) (f .filled);
+      }
+
+-- a state and a table are sound exactly if setup, lent that table, answers that state for some sheet and leaves the table as it is
+pub sound-setup : (st : State) (table marks : List ℕ) → Formed st → Bytes table → (stateSound st table marks ≡ true) ↔ ((b : List ℕ) × SetUpBy st table marks b)
+sound-setup st table marks formed bytes = (
+  λ e. let f = sound-from st table marks formed bytes e in (f .0, call-from st table marks (f .0) (f .1)),
+  λ f. from-sound st table marks (f .0) (from-call st table marks (f .0) (f .1)),
+)
