@@ -22,3 +22,8 @@ determined-by says apart b r s p q = apart r s (p ∙ sym q)
 abbrev pub OneAnswer : {n : ℕ} (ps : List (PK n)) (k : RK n) → Out n ps k → Type 0
 OneAnswer {n} ps k Post =
     (κs : Lfts n) (a : Dens κs ps) (r s : resT k κs .Denot) (e f : AtExit (endedOf n ps k) κs) → Post κs a r e → Post κs a s f → r ≡ s
+
+-- .. and one later content of what was lent, which `seen` reads off the parameters at exit
+abbrev pub OneOutcome : {n : ℕ} (ps : List (PK n)) (k : RK n) → Out n ps k → {L : Type 0} → ((κs : Lfts n) → AtExit (endedOf n ps k) κs → L) → Type 0
+OneOutcome {n} ps k Post seen =
+    (κs : Lfts n) (a : Dens κs ps) (r s : resT k κs .Denot) (e f : AtExit (endedOf n ps k) κs) → Post κs a r e → Post κs a s f → (r ≡ s) × (seen κs e ≡ seen κs f)
