@@ -25,6 +25,7 @@ pub mod Met
 pub mod Inside
 pub mod Once
 pub mod WholeTile
+pub mod Resume
 pub mod Readback
 pub mod Reading
 pub mod Fields
