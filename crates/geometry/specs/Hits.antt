@@ -130,11 +130,21 @@ module _ (s : Line) (h : 1 ≤ s .d) where
       (Corners.corner-column _ _ posD' (pow-pos (s .pd)) (s .t0) (s .t1) x p
       (rw (whole-law s, step-law (s .d) (s .level) (s .pd), bound-law (s .t0) (s .d) (s .level) h) at e))
 
+  -- the column of a hit is the quotient by the step, from the first
+  pub hit-quotient : (x : ℕ) → s .t0 ≤ x → hitAt s x ≡ true → (columnOf s x ≡ x / step s - first s) × (first s ≤ x / step s)
+  unfolding hitAt columnOf
+  hit-quotient x p e =
+      let q : ceilDiv x (s .d * 2 ^ s .level) / 2 ^ s .pd ≡ x / step s
+      = rw (step-law (s .d) (s .level) (s .pd))
+      (Corners.column-quotient _ _ posD' (pow-pos (s .pd)) (s .t0) (s .t1) x
+      (rw (whole-law s, step-law (s .d) (s .level) (s .pd), bound-law (s .t0) (s .d) (s .level) h) at e)) in
+      (ap (λ (n : ℕ). n - first s) q, rw q at (first-least x p))
+
   -- two hits of one column are one
   pub hit-unique : (x z : ℕ) → s .t0 ≤ x → s .t0 ≤ z → hitAt s x ≡ true → hitAt s z ≡ true → columnOf s x ≡ columnOf s z → x ≡ z
   hit-unique x z p q e f g = hit-corner x p e ∙ ap (λ (k : ℕ). cornerOf s (first s + k)) g ∙ sym (hit-corner z q f)
 
-  posStep : 1 ≤ step s
+  pub posStep : 1 ≤ step s
   posStep = mul-pos h (pow-pos (s .pd + s .level))
 
   -- a hit above the start is a multiple of the step

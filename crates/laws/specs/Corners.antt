@@ -1,5 +1,5 @@
 -- The points of an axis at which a precinct starts, for a sample of D points and a precinct of P samples. Assumes nothing.
-use mathlib.Core.Path.{_≡_, refl, ap, _∙_}
+use mathlib.Core.Path.{_≡_, refl, sym, ap, _∙_}
 use mathlib.Core.Bool.{Bool, true, false, not, _&&_, _||_, false≢true}
 use mathlib.Core.List.{List, _∷_, map}
 use mathlib.Core.Logic.{_⊎_, inl, inr, ⊎-elim}
@@ -84,7 +84,7 @@ module _ (D P : ℕ) (posD : 1 ≤ D) (posP : 1 ≤ P) where
         ∙ rw (← (ceil-ceil D P posD posP t0), ← (ceil-ceil D P posD posP t1), ceil-on P posP (ceilDiv t0 D) e)
 
     -- the start of the axis lies inside the precinct of its first sample
-    inside : (ceilDiv t0 D % P ≡ 0 → ⊥) → t0 / (D * P) ≡ ceilDiv t0 D / P
+    pub inside : (ceilDiv t0 D % P ≡ 0 → ⊥) → t0 / (D * P) ≡ ceilDiv t0 D / P
     inside n =
         let r : ℕ = ceilDiv t0 D in
         let m : r % P < P = mod-lt r posP in
@@ -181,4 +181,14 @@ module _ (D P : ℕ) (posD : 1 ≤ D) (posP : 1 ≤ P) where
         ⊎-elim
         (λ (m : x % (D * P) ≡ 0). let q : x / (D * P) * (D * P) ≡ x = omega (arith, div-add-mod' x (D * P)) in rw (← q, column-times (x / (D * P))) (omega arith))
         (λ (m : (x ≡ t0) × (eqb (ceilDiv t0 D % P) 0 ≡ false)). rw (m .0, ← (inside t0 t1 (eqb-false (ceilDiv t0 D % P) 0 (m .1)))) (omega (arith, div-mul-le-self t0 (D * P))))
+        (starts-either (D * P) t0 _ x e)
+
+    -- its column is the quotient by the step
+    pub column-quotient : (x : ℕ) → starts (D * P) t0 (eqb (ceilDiv t0 D % P) 0) x ≡ true → ceilDiv x D / P ≡ x / (D * P)
+    column-quotient x e =
+        ⊎-elim
+        (λ (m : x % (D * P) ≡ 0).
+        let q : x ≡ x / (D * P) * (D * P) = omega (arith, div-add-mod' x (D * P)) in
+        ap (λ (n : ℕ). ceilDiv n D / P) q ∙ column-times (x / (D * P)))
+        (λ (m : (x ≡ t0) × (eqb (ceilDiv t0 D % P) 0 ≡ false)). rw (m .0) (sym (inside t0 t1 (eqb-false (ceilDiv t0 D % P) 0 (m .1)))))
         (starts-either (D * P) t0 _ x e)

@@ -1,7 +1,8 @@
 -- The smallest of a function below a number, or from one number up to another: it is at most each of them, and has what all of them have. Assumes nothing.
-use mathlib.Core.Path.{_≡_, refl}
+use mathlib.Core.Path.{_≡_, refl, ap}
 use mathlib.Core.Logic.{⊎-elim}
-use Prim.Native.Nat.{ℕ, zero, suc, _+_, _-_, _≤_, _<_, min}
+use Prim.Native.Nat.{ℕ, zero, suc, _+_, _-_, _≤_, _<_, min, max}
+use native.Mathlib.Nat.{le-refl}
 use native.Mathlib.Omega.{arith}
 use Rattle.laws.specs.Cases.{le-or-lt}
 use Rattle.laws.specs.Below.{minBelow, min-none, min-more, min-start, min-at}
@@ -65,3 +66,46 @@ module _ (a : ℕ) (f : ℕ → ℕ) (lo : ℕ) where
 pub least-from : (a b : ℕ) (f : ℕ → ℕ) (lo hi : ℕ) → least (min a b) f lo hi ≡ min a (least b f lo hi)
 unfolding least
 least-from a b f lo hi = min-from a b (λ i. f (lo + i)) (hi - lo)
+
+-- up to the larger of both ends is up to the end
+pub least-to : (a : ℕ) (f : ℕ → ℕ) (lo hi i : ℕ) → lo ≤ i → i ≤ max lo hi → hi ≤ i → least a f lo i ≡ least a f lo hi
+least-to a f lo hi i p q r =
+    ⊎-elim
+    (λ h. rw (least-none a f lo i (omega arith), least-none a f lo hi h))
+    (λ h. ap (least a f lo) (omega arith))
+    (le-or-lt hi lo)
+
+-- TWO LOOPS for the smallest of f c r, for c from c0 on, and for each of these r from r0 to r1
+module _ (a : ℕ) (f : ℕ → ℕ → ℕ) (r0 r1 c0 : ℕ) where
+  -- the smallest of those before c
+  unfoldable pub leastBefore : ℕ → ℕ
+  leastBefore c = least a (λ i. least a (f i) r0 r1) c0 c
+
+  -- and of those of c before r
+  unfoldable pub leastSeen : ℕ → ℕ → ℕ
+  leastSeen c r = min (leastBefore c) (least a (f c) r0 r)
+
+  -- it starts at a
+  pub seen-none : leastBefore c0 ≡ a
+  unfolding leastBefore
+  seen-none = least-none a _ c0 c0 (le-refl c0)
+
+  -- the inner loop starts with what the outer one has
+  pub seen-enter : (c : ℕ) → leastSeen c r0 ≡ leastBefore c
+  unfolding leastBefore leastSeen
+  seen-enter c = rw (least-none a (f c) r0 r0 (le-refl r0)) (omega (arith, least-start a (λ i. least a (f i) r0 r1) c0 c))
+
+  -- a turn of it takes one more
+  pub seen-more : (c r : ℕ) → r0 ≤ r → leastSeen c (r + 1) ≡ min (leastSeen c r) (f c r)
+  unfolding leastSeen
+  seen-more c r h = rw (least-more a (f c) r0 r h) (omega arith)
+
+  -- where it ends the outer one has taken one more
+  pub seen-leave : (c r : ℕ) → c0 ≤ c → r0 ≤ r → r ≤ max r0 r1 → r1 ≤ r → leastSeen c r ≡ leastBefore (c + 1)
+  unfolding leastBefore leastSeen
+  seen-leave c r k p q e = rw (least-to a (f c) r0 r1 r p q e, least-more a (λ i. least a (f i) r0 r1) c0 c k)
+
+  -- and where that ends it has them all
+  pub seen-all : (c c1 : ℕ) → c0 ≤ c → c ≤ max c0 c1 → c1 ≤ c → leastBefore c ≡ least a (λ i. least a (f i) r0 r1) c0 c1
+  unfolding leastBefore
+  seen-all c c1 p q e = least-to a (λ i. least a (f i) r0 r1) c0 c1 c p q e

@@ -42,3 +42,4 @@ pub mod Rows
 pub mod Rebuilt
 pub mod Recovered
 pub mod Origin
+pub mod Cases

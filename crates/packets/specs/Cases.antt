@@ -1,0 +1,268 @@
+-- 01's worked cases P-a to P-l ('Listing program and its sheets') as rows of a single list, each checked by computing on the bytes of its sheet: what setup
+-- answers, the precincts, the packets in order, and what steps answer. P-j has 32,767 points to test, so positions are computed by the next hit in play
+-- (theorem 2, InPlay); what the listing program prints for sheet A is computed point by point. Assumes nothing.
+use Prim.Native.Nat.{ℕ, _+_, _-_}
+use mathlib.Core.Path.{_≡_, refl, subst, fun-ext}
+use mathlib.Core.Bool.{Bool, true, false, _&&_}
+use mathlib.Core.List.{List, [], _∷_, _++_, map}
+use mathlib.Core.Option.{Option, some, none}
+use lib.ListN.{length, replicate}
+use lib.Dec.{eqb, ltb}
+use lib.IntN.{ℤ, pos, negsuc}
+use Rattle.laws.specs.Gather.{gather}
+use Rattle.laws.specs.Axis.{axis, goUp, span}
+use Rattle.laws.specs.Lists.{behind}
+use Rattle.laws.specs.Below.{allBelow, sumBelow, maxBelow, minBelow}
+use Rattle.laws.specs.Least.{least}
+use Rattle.laws.specs.Nest.{nest}
+use Rattle.laws.specs.Runs.{seek}
+use Rattle.laws.specs.AllRuns.{has, unseen, joined, dedupe}
+use Rattle.words.specs.Words.{wordAt, wordsBytes}
+use Rattle.geometry.specs.Precinct.{across}
+use Rattle.geometry.specs.Line.{boundOf, count, hitAt, columnOf}
+use Rattle.packets.specs.State.{freshCursor, origin}
+use Rattle.packets.specs.Sheet.{recordVerdict, dueBehind, readFrom, readVerdict, componentRecord, progressionAt, fieldsOf}
+use Rattle.packets.specs.Tile.{Sheet, width, height, resOf, maxPrec, maxRes, dxMin, dyMin, reported, needed, indexOf, entriesBefore, tableBytes}
+use Rattle.packets.specs.Orders.{Order, orderOf, Range, rangeOf}
+use Rattle.packets.specs.Grid.{changeOf, stepsFit, stepsDivide, gridAgreed}
+use Rattle.packets.specs.Positions.{met, numberAt, positionsIn, pickList, hasPositions}
+use Rattle.packets.specs.Table.{tableOf, sheetIn, sheetAt}
+use Rattle.packets.specs.Sound.{placeSound, componentsSound, progressionsSound, entrySound, tableSound, reportsSound, stateSound, isIn, cursorSound, sound}
+use Rattle.packets.specs.Same.{samePosition, same, decided}
+use Rattle.packets.specs.Calls.{Setup, Step, setupVerdict, setupOf, refusal, listed, after, stepBy, pickStep, stepOf}
+use Rattle.packets.specs.Text.{textOf, digitsUpTo}
+use Rattle.packets.specs.Strided.{strided, pointsFor}
+use Rattle.packets.specs.InPlay.{nextX, nextY, nextInPlay, in-play-listed}
+use Rattle.packets.specs.declared.state.State.{State}
+use Rattle.packets.specs.declared.cursor.Position.{Position}
+use Rattle.packets.specs.declared.cursor.Place.{Place}
+use Rattle.packets.specs.declared.cursor.Place.the-variants as place
+use Rattle.packets.specs.declared.cursor.Cursor.{Cursor}
+
+-- SHEETS. A record from its words, zeros at the end omitted; a sheet from its records
+abbrev pub recordBytes : List ℕ → List ℕ
+recordBytes ws = wordsBytes (ws ++ replicate (8 - length ws) 0)
+
+abbrev pub sheetBytes : List (List ℕ) → List ℕ
+sheetBytes = gather recordBytes
+
+-- sheet A with these progressions, and A itself
+abbrev tileA : List (List ℕ) → List (List ℕ)
+tileA changes = (1 ∷ 0 ∷ 0 ∷ 64 ∷ 32 ∷ 2 ∷ 1 ∷ length changes ∷ []) ∷ (2 ∷ 1 ∷ 1 ∷ 2 ∷ []) ∷ (3 ∷ 4 ∷ 4 ∷ []) ∷ (3 ∷ 5 ∷ 5 ∷ []) ∷ changes
+
+abbrev pub sheetA : List (List ℕ)
+sheetA = tileA ((5 ∷ 2 ∷ []) ∷ [])
+
+-- P-h's: one resolution each, dx 2 and 3, so steps 32 and 48
+abbrev unlike : ℕ → List (List ℕ)
+unlike prg =
+    (1 ∷ 0 ∷ 0 ∷ 64 ∷ 32 ∷ 1 ∷ 2 ∷ 1 ∷ []) ∷ (2 ∷ 2 ∷ 1 ∷ 1 ∷ []) ∷ (3 ∷ 4 ∷ 4 ∷ []) ∷ (2 ∷ 3 ∷ 1 ∷ 1 ∷ []) ∷ (3 ∷ 4 ∷ 4 ∷ []) ∷ (5 ∷ prg ∷ []) ∷ []
+
+-- P-i's: 17 resolutions, exponents 15
+abbrev deep : ℕ → List (List ℕ)
+deep d = (1 ∷ 0 ∷ 0 ∷ 8 ∷ 8 ∷ 1 ∷ 1 ∷ 1 ∷ []) ∷ (2 ∷ d ∷ d ∷ 17 ∷ []) ∷ (replicate 17 (3 ∷ 15 ∷ 15 ∷ []) ++ (5 ∷ 4 ∷ []) ∷ [])
+
+-- the last row's: components of one resolution and of two
+abbrev uneven : List (List ℕ)
+uneven =
+    (1 ∷ 0 ∷ 0 ∷ 32 ∷ 16 ∷ 1 ∷ 2 ∷ 1 ∷ []) ∷ (2 ∷ 1 ∷ 1 ∷ 1 ∷ []) ∷ (3 ∷ 4 ∷ 4 ∷ []) ∷ (2 ∷ 1 ∷ 1 ∷ 2 ∷ []) ∷ (3 ∷ 3 ∷ 3 ∷ []) ∷ (3 ∷ 4 ∷ 4 ∷ []) ∷ (5 ∷ 2 ∷ []) ∷ []
+
+-- PACKETS: layer, resolution, component, precinct, and the point where it is met
+abbrev at : ℕ → ℕ → ℕ → ℕ → ℕ → ℕ → Position
+at l r c k x y = record { layno = l; resno = r; compno = c; precno = k; x = x; y = y }
+
+-- P-a's eight
+abbrev eight : List Position
+eight =
+    at 0 0 0 0 0 0 ∷ at 1 0 0 0 0 0 ∷ at 0 0 0 1 32 0 ∷ at 1 0 0 1 32 0 ∷ at 0 1 0 0 0 0 ∷ at 1 1 0 0 0 0 ∷ at 0 1 0 1 32 0 ∷ at 1 1 0 1 32 0 ∷ []
+
+-- A's four of a layer; x is where precinct 1 is met
+abbrev layer : ℕ → ℕ → List Position
+layer l x = at l 0 0 0 0 0 ∷ at l 0 0 1 x 0 ∷ at l 1 0 0 0 0 ∷ at l 1 0 1 x 0 ∷ []
+
+-- to unfold this is to unfold all that reads a sheet and lists its positions
+computed : ℕ
+unfolding setupVerdict readVerdict readFrom recordVerdict dueBehind wordAt wordsBytes gather allBelow sumBelow maxBelow minBelow componentRecord progressionAt fieldsOf maxPrec maxRes dxMin dyMin reported needed indexOf entriesBefore rangeOf stepsFit stepsDivide gridAgreed met numberAt tableOf nest axis goUp has unseen across boundOf count hitAt columnOf
+computed = 0
+
+-- A ROW: a sheet in words; the number that setup answers; where it is accepted, the marks needed, the width and height of every resolution, the packets in
+-- order, and for progression 0, 1 and so on the numbers that the first steps from a fresh cursor answer, over the marks as they are by then
+pub record Row : Type 0 where
+  pub sheet : List (List ℕ)
+  pub number : ℤ
+  pub marks : ℕ
+  pub sizes : List ℕ
+  pub packets : List Position
+  pub answers : List (List ℕ)
+
+abbrev accepts : List (List ℕ) → ℕ → List ℕ → List Position → List (List ℕ) → Row
+accepts sheet marks sizes packets answers = record { sheet = sheet; number = pos 0; marks = marks; sizes = sizes; packets = packets; answers = answers }
+
+abbrev refuses : List (List ℕ) → ℕ → Row
+refuses sheet n = record { sheet = sheet; number = refusal n; marks = 0; sizes = []; packets = []; answers = [] }
+
+-- A with these progressions: counts 2 by 1 for both resolutions, 8 marks
+abbrev withA : List (List ℕ) → List Position → List (List ℕ) → Row
+withA changes = accepts (tileA changes) 8 (2 ∷ 1 ∷ 2 ∷ 1 ∷ [])
+
+unfoldable pub rows : List Row
+rows =
+    -- P-a: A; 1 eight times, then 0
+    withA ((5 ∷ 2 ∷ []) ∷ []) eight ((replicate 8 1 ++ 0 ∷ []) ∷ [])
+    -- P-b: order 0 lists all of layer 0, then layer 1
+    ∷ withA ((5 ∷ 0 ∷ []) ∷ []) (layer 0 0 ++ layer 1 0) []
+    -- P-c: four packets of layer 0, then four of layer 1
+    ∷ withA ((4 ∷ 0 ∷ 0 ∷ 0 ∷ 1 ∷ 2 ∷ 1 ∷ []) ∷ (4 ∷ 2 ∷ 0 ∷ 0 ∷ 2 ∷ 2 ∷ 1 ∷ []) ∷ []) (layer 0 0 ++ layer 1 32)
+    ((replicate 4 1 ++ 0 ∷ []) ∷ (replicate 4 1 ++ 0 ∷ []) ∷ [])
+    -- P-d: x is 5, 16, 32; width 3
+    ∷ accepts ((1 ∷ 5 ∷ 0 ∷ 40 ∷ 16 ∷ 1 ∷ 1 ∷ 1 ∷ []) ∷ (2 ∷ 1 ∷ 1 ∷ 1 ∷ []) ∷ (3 ∷ 4 ∷ 4 ∷ []) ∷ (5 ∷ 2 ∷ []) ∷ [])
+    3 (3 ∷ 1 ∷ []) (at 0 0 0 0 5 0 ∷ at 0 0 0 1 16 0 ∷ at 0 0 0 2 32 0 ∷ []) []
+    -- P-e: width 0
+    ∷ accepts ((1 ∷ 1 ∷ 0 ∷ 2 ∷ 1 ∷ 1 ∷ 1 ∷ 1 ∷ []) ∷ (2 ∷ 4 ∷ 1 ∷ 1 ∷ []) ∷ (3 ∷ 0 ∷ 0 ∷ []) ∷ (5 ∷ 2 ∷ []) ∷ []) 0 (0 ∷ 1 ∷ []) [] []
+    -- P-f: tx0 = tx1: accepted, 0 marks, 0 at once
+    ∷ accepts ((1 ∷ 7 ∷ 0 ∷ 7 ∷ 16 ∷ 1 ∷ 1 ∷ 1 ∷ []) ∷ (2 ∷ 1 ∷ 1 ∷ 1 ∷ []) ∷ (3 ∷ 4 ∷ 4 ∷ []) ∷ (5 ∷ 2 ∷ []) ∷ []) 0 (0 ∷ 1 ∷ []) [] ((0 ∷ []) ∷ [])
+    -- P-g: compno1 above the components: no packets; equal to them: the eight of P-a
+    ∷ withA ((4 ∷ 2 ∷ 0 ∷ 0 ∷ 2 ∷ 2 ∷ 2 ∷ []) ∷ []) [] ((0 ∷ []) ∷ [])
+    ∷ withA ((4 ∷ 2 ∷ 0 ∷ 0 ∷ 2 ∷ 2 ∷ 1 ∷ []) ∷ []) eight []
+    -- P-h: order 2 gives -4; orders 0 and 4 pass
+    ∷ refuses (unlike 2) 4
+    ∷ accepts (unlike 0) 8 (replicate 4 2) (map (λ k. at 0 0 0 k 0 0) (span 0 4) ++ map (λ k. at 0 0 1 k 0 0) (span 0 4)) []
+    ∷ accepts (unlike 4) 8 (replicate 4 2)
+    (at 0 0 0 0 0 0 ∷ at 0 0 0 1 32 0 ∷ at 0 0 0 2 0 16 ∷ at 0 0 0 3 32 16 ∷ at 0 0 1 0 0 0 ∷ at 0 0 1 1 48 0 ∷ at 0 0 1 2 0 16 ∷ at 0 0 1 3 48 16 ∷ []) []
+    -- P-i: d = 2 gives -4, d = 1 passes
+    ∷ refuses (deep 2) 4
+    ∷ accepts (deep 1) 17 (replicate 34 1) (map (λ r. at 0 r 0 0 0 0) (span 0 17)) []
+    -- P-j: one packet, then 0
+    ∷ accepts ((1 ∷ 4294934528 ∷ 0 ∷ 4294967295 ∷ 1 ∷ 1 ∷ 1 ∷ 1 ∷ []) ∷ (2 ∷ 1 ∷ 1 ∷ 1 ∷ []) ∷ (3 ∷ 15 ∷ 15 ∷ []) ∷ (5 ∷ 2 ∷ []) ∷ [])
+    1 (1 ∷ 1 ∷ []) (at 0 0 0 0 4294934528 0 ∷ []) ((1 ∷ 0 ∷ []) ∷ [])
+    -- P-k: 0, and 0 again
+    ∷ withA ((4 ∷ 0 ∷ 0 ∷ 0 ∷ 0 ∷ 2 ∷ 1 ∷ []) ∷ []) [] ((0 ∷ 0 ∷ []) ∷ [])
+    -- P-l: prg -1 and 5: 0
+    ∷ withA ((5 ∷ 4294967295 ∷ []) ∷ []) [] ((0 ∷ []) ∷ [])
+    ∷ withA ((5 ∷ 5 ∷ []) ∷ []) [] ((0 ∷ []) ∷ [])
+    -- 01, 'Easy slips': levels are the component's own; and a resolution is skipped for a component that hasn't got it
+    ∷ accepts uneven 8 (2 ∷ 1 ∷ 2 ∷ 1 ∷ 2 ∷ 1 ∷ []) (at 0 0 0 0 0 0 ∷ at 0 0 1 0 0 0 ∷ at 0 0 0 1 16 0 ∷ at 0 0 1 1 16 0 ∷ at 0 1 1 0 0 0 ∷ at 0 1 1 1 16 0 ∷ []) []
+    ∷ []
+
+-- THE TEST
+abbrev sameNumber : ℤ → ℤ → Bool
+sameNumber (pos a) (pos b) = eqb a b
+sameNumber (pos a) (negsuc b) = false
+sameNumber (negsuc a) (pos b) = false
+sameNumber (negsuc a) (negsuc b) = eqb a b
+
+-- two lists are the same, by a test of their elements
+abbrev sameBy : {A : Type 0} → (A → A → Bool) → List A → List A → Bool
+sameBy f [] [] = true
+sameBy f [] (y ∷ ys) = false
+sameBy f (x ∷ xs) [] = false
+sameBy f (x ∷ xs) (y ∷ ys) = f x y && sameBy f xs ys
+
+-- the width and height of every resolution
+abbrev sizesOf : Sheet → List ℕ
+sizesOf s = gather (λ c. gather (λ r. width s c r ∷ height s c r ∷ []) (span 0 (resOf (s .st) c))) (span 0 (s .st .components))
+
+-- with a packet the cursor has moved to it, and else it is ended
+abbrev moved : Option Position → Place → Bool
+moved (some p) (place.At q) = samePosition p q
+moved (some p) place.Fresh = false
+moved (some p) place.Ended = false
+moved none (place.At q) = false
+moved none place.Fresh = false
+moved none place.Ended = true
+
+-- steps answer these numbers, each given what the one before has answered and left; then the rest holds over the marks left
+abbrev answering : (List ℕ → Cursor → Step) → List ℕ → Cursor → List ℕ → (List ℕ → Bool) → Bool
+answering go marks c [] rest = rest marks
+answering go marks c (n ∷ ns) rest =
+    let u : Step = go marks c in
+    sameNumber (u .said .number) (pos n)
+    && (moved (u .said .packet) (u .said .cursor .place) && answering go (u .marks) (u .said .cursor) ns rest)
+
+-- so for progression k and those behind it, in turn
+abbrev inTurn : (List ℕ → Cursor → Step) → List ℕ → ℕ → List (List ℕ) → Bool
+inTurn go marks k [] = true
+inTurn go marks k (ns ∷ nss) = answering go marks (freshCursor k) ns (λ m. inTurn go m (k + 1) nss)
+
+-- a refusal says no more
+abbrev ifAccepted : ℤ → Bool → Bool
+ifAccepted (pos n) t = t
+ifAccepted (negsuc n) t = true
+
+-- what a row says holds, by a way of listing and a way of stepping. Lent bytes are all 255 before
+unfoldable pub holdsBy : (State → List ℕ → List Position) → (State → List ℕ → List ℕ → Cursor → Step) → Row → Bool
+holdsBy list go row =
+    let b : List ℕ = sheetBytes (row .sheet) in
+    let u : Setup = setupOf b (replicate (tableBytes (reported (sheetIn b))) 255) (replicate (row .marks) 255) in
+    let st : State = u .said .state in
+    let counts = eqb (needed st) (row .marks) && sameBy eqb (sizesOf (sheetIn b)) (row .sizes) in
+    let packets = sameBy samePosition (list st (u .table)) (row .packets) in
+    let answers = inTurn (go st (u .table)) (u .marks) 0 (row .answers) in
+    let rest = counts && (packets && answers) in
+    sameNumber (u .said .number) (row .number) && ifAccepted (row .number) rest
+
+unfoldable pub allBy : (State → List ℕ → List Position) → (State → List ℕ → List ℕ → Cursor → Step) → List Row → Bool
+allBy list go [] = true
+allBy list go (r ∷ rs) = holdsBy list go r && allBy list go rs
+
+-- every row holds, by the calls' own listing and step
+abbrev pub all : List Row → Bool
+all = allBy listed stepOf
+
+-- FEWER POINTS. The calls' listing and step, over any positions
+module _ (positions : Sheet → Range → Order → List Position) where
+  positionsBy : State → List ℕ → ℕ → List Position
+  positionsBy st table k = positions (sheetAt st table) (rangeOf st (changeOf st k)) (orderOf (changeOf st k .prg))
+
+  listedBy : State → List ℕ → List Position
+  listedBy st table = dedupe (indexOf st) (joined (map (positionsBy st table) (span 0 (st .progressions))))
+
+  stepVia : State → List ℕ → List ℕ → Cursor → Step
+  stepVia st table marks c =
+      let ps : List Position = positionsBy st table (c .progression) in
+      let found = stepBy st marks (c .progression) (seek (indexOf st) marks (after (c .place) ps)) in
+      pickStep (stateSound st table marks && (ltb (c .progression) (st .progressions) && placeSound (c .place) ps)) found
+      (record { said = record { number = refusal 9; packet = none; cursor = c }; marks = marks })
+
+-- positions by the next hit in play
+inPlay : Sheet → Range → Order → List Position
+inPlay s g o = pickList (hasPositions s g o) (nest (strided s g (nextX s g (pointsFor o)) (nextY s g (pointsFor o)) o) origin) []
+
+in-play : inPlay ≡ positionsIn
+unfolding inPlay
+in-play = fun-ext (λ s. fun-ext (λ g. fun-ext (in-play-listed s g)))
+
+-- so a list may be checked by these
+by-in-play : (rs : List Row) → allBy (listedBy inPlay) (stepVia inPlay) rs ≡ true → all rs ≡ true
+unfolding listedBy stepVia positionsBy listed stepOf sound cursorSound
+by-in-play rs = subst (λ (f : Sheet → Range → Order → List Position). allBy (listedBy f) (stepVia f) rs ≡ true) in-play
+
+in-play-hold : allBy (listedBy inPlay) (stepVia inPlay) rows ≡ true
+unfolding computed rows allBy holdsBy inPlay listedBy stepVia positionsBy setupOf stateSound isIn componentsSound progressionsSound tableSound entrySound reportsSound same decided behind seek nextInPlay least
+in-play-hold = refl
+
+-- THEOREM: P-a to P-l hold
+pub rows-hold : all rows ≡ true
+rows-hold = by-in-play rows in-play-hold
+
+-- THE TEXT. A line of one-digit numbers
+abbrev pub shown : List ℕ → List ℕ
+shown [] = 10 ∷ []
+shown (n ∷ []) = (48 + n) ∷ 10 ∷ []
+shown (n ∷ m ∷ ms) = (48 + n) ∷ 32 ∷ shown (m ∷ ms)
+
+-- P-a: what is printed for sheet A, exactly
+pub sheet-a-text : textOf (sheetBytes sheetA)
+    ≡ gather shown
+    ((0 ∷ 0 ∷ 0 ∷ 0 ∷ [])
+    ∷ (1 ∷ 0 ∷ 0 ∷ 0 ∷ [])
+    ∷ (0 ∷ 0 ∷ 0 ∷ 1 ∷ [])
+    ∷ (1 ∷ 0 ∷ 0 ∷ 1 ∷ [])
+    ∷ (0 ∷ 1 ∷ 0 ∷ 0 ∷ [])
+    ∷ (1 ∷ 1 ∷ 0 ∷ 0 ∷ [])
+    ∷ (0 ∷ 1 ∷ 0 ∷ 1 ∷ [])
+    ∷ (1 ∷ 1 ∷ 0 ∷ 1 ∷ [])
+    ∷ (8 ∷ [])
+    ∷ [])
+unfolding computed textOf digitsUpTo listed positionsIn
+sheet-a-text = refl

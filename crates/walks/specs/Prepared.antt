@@ -1,0 +1,93 @@
+-- The numbers that a run prepares once for each component and resolution, what they stand for, and what they answer at a point.
+use Prim.Native.Nat.{ℕ, _+_, _*_, _%_, _≤_, _<_}
+use mathlib.Core.Path.{_≡_}
+use mathlib.Core.Bool.{Bool, true, false, _||_}
+use mathlib.Core.List.{List}
+use lib.ListN.{length, getD}
+use lib.Dec.{ltb, eqb}
+use Rattle.geometry.specs.Precinct.{pick}
+use Rattle.geometry.specs.Line.{Line, whole, first}
+use Rattle.packets.specs.State.{origin}
+use Rattle.packets.specs.Tile.{Sheet, lineX, lineY, width, precincts}
+use Rattle.packets.specs.Orders.{Range}
+use Rattle.packets.specs.Grid.{stepX, stepY}
+use Rattle.packets.specs.Positions.{met, numberAt}
+use Rattle.packets.specs.Good.{Good}
+use Rattle.packets.specs.declared.cursor.Position.{Position}
+use Rattle.walks.specs.declared.cell.Cell.{Cell}
+use Rattle.walks.specs.declared.cell.Cell.the-variants.{At, Nothing}
+
+-- prepared number j of resolution r of component c: 0 width (0 where there is no precinct), 1 and 2 steps x and y, 3 and 4 the tile's start where it lies inside
+-- a precinct, 5 and 6 first column and row, 7 the number of precincts
+abbrev pub field : List ℕ → ℕ → ℕ → ℕ → ℕ
+field prep r c j = getD prep (8 * (16 * r + c) + j) 0
+
+-- number 0, where the code reads it
+abbrev pub widthIn : List ℕ → ℕ → ℕ → ℕ
+widthIn prep r c = getD prep (8 * (16 * r + c)) 0
+
+-- the tile's start where it lies inside a precinct, else 2^32 - 1, which no point is
+abbrev pub insideStart : Line → ℕ
+insideStart l = pick (whole l) 4294967295 (l .t0)
+
+-- a coordinate meets a precinct's start, by these numbers
+abbrev pub hitBy : ℕ → ℕ → ℕ → Bool
+hitBy step start z = eqb (z % step) 0 || eqb z start
+
+-- what the prepared numbers of a resolution that has precincts stand for
+pub record Lines (s : Sheet) (prep : List ℕ) (r c : ℕ) : Type 0 where
+  pub step-x : field prep r c 1 ≡ stepX s c r
+  pub step-y : field prep r c 2 ≡ stepY s c r
+  pub start-x : field prep r c 3 ≡ insideStart (lineX s c r)
+  pub start-y : field prep r c 4 ≡ insideStart (lineY s c r)
+  pub first-x : field prep r c 5 ≡ first (lineX s c r)
+  pub first-y : field prep r c 6 ≡ first (lineY s c r)
+
+-- .. and of any resolution
+pub record Entry (s : Sheet) (prep : List ℕ) (r c : ℕ) : Type 0 where
+  pub wide : widthIn prep r c ≡ pick (ltb 0 (precincts s c r)) (width s c r) 0
+  pub lines : 0 < precincts s c r → Lines s prep r c
+
+-- resolutions r0 to r1 of components c0 to c1 are prepared, for a good sheet whose precinct counts are small
+pub record InPlay (s : Sheet) (prep : List ℕ) (r0 r1 c0 c1 : ℕ) : Type 0 where
+  pub good : Good s
+  pub resolutions : r1 ≤ 33
+  pub components : c1 ≤ 16
+  pub known : c1 ≤ s .st .components
+  pub entry : (r c : ℕ) → r0 ≤ r → r < r1 → c0 ≤ c → c < c1 → Entry s prep r c
+  pub few : (r c : ℕ) → r0 ≤ r → r < r1 → c0 ≤ c → c < c1 → precincts s c r ≤ 65536
+  pub ends-x : s .st .tx1 ≤ 4294967295
+  pub ends-y : s .st .ty1 ≤ 4294967295
+
+-- some sheet is so prepared
+abbrev pub SomePlay : List ℕ → ℕ → ℕ → ℕ → ℕ → Type 0
+SomePlay prep r0 r1 c0 c1 = (s : Sheet) × InPlay s prep r0 r1 c0 c1
+
+-- one resolution of one component, at a point of the tile
+pub record AtPoint (s : Sheet) (prep : List ℕ) (r c x y : ℕ) : Type 0 where
+  pub play : InPlay s prep r (r + 1) c (c + 1)
+  pub left : s .st .tx0 ≤ x
+  pub right : x < s .st .tx1
+  pub top : s .st .ty0 ≤ y
+  pub bottom : y < s .st .ty1
+
+abbrev pub SomePoint : List ℕ → ℕ → ℕ → ℕ → ℕ → Type 0
+SomePoint prep r c x y = (s : Sheet) × AtPoint s prep r c x y
+
+abbrev pub rangeBy : ℕ → ℕ → ℕ → ℕ → Range
+rangeBy r0 r1 c0 c1 = record { layno1 = 0; resno0 = r0; resno1 = r1; compno0 = c0; compno1 = c1 }
+
+-- a place in row y, and at a point
+abbrev pub atRow : ℕ → Position
+atRow y = record { layno = 0; resno = 0; compno = 0; precno = 0; x = 0; y = y }
+
+abbrev pub pointOf : ℕ → ℕ → ℕ → ℕ → Position
+pointOf r c x y = record { layno = 0; resno = r; compno = c; precno = 0; x = x; y = y }
+
+abbrev pub pickCell : Bool → Cell → Cell → Cell
+pickCell true a b = a
+pickCell false a b = b
+
+-- the precinct that is met at a point, if one is
+unfoldable pub cellOf : Sheet → ℕ → ℕ → ℕ → ℕ → Cell
+cellOf s r c x y = pickCell (met s (pointOf r c x y)) (At (numberAt s (pointOf r c x y))) Nothing

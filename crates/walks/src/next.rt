@@ -1,0 +1,77 @@
+// The next row or column of a tile at which something in play can be met: resolutions r0 to r1 of components c0 to c1 that have precincts and,
+// for columns, that the row y meets. Beyond the last there is the end.
+use crate::cell::hits;
+ghost use mathlib.Core.Path.{_≡_};
+ghost use Prim.Native.Nat.{_-_, _%_, _<_, _≤_, min};
+ghost use Rattle.packets.specs.Tile.{Sheet};
+ghost use Rattle.packets.specs.InPlay.{nextBefore, playX, playY};
+ghost use Rattle.packets.specs.Grid.{stepX, stepY};
+ghost use Rattle.walks.specs.Prepared.{InPlay, SomePlay, rangeBy, atRow};
+
+// The distance from z to the next multiple of the step, if that is less.
+pub(crate) fn nearer(best: u32, step: u32, z: u32) -> u32
+    requires { ⌜ 1 ≤ step ⌝ }
+    ensures { λ r. ⌜ r ≡ min best (step - z % step) ⌝ }
+{
+    let d = step - z % step;
+    if d < best { d } else { best }
+}
+
+pub(crate) fn next_row(
+    prep: &[u32; 4224],
+    r0: u32,
+    r1: u32,
+    c0: u32,
+    c1: u32,
+    y: u32,
+    end: u32,
+) -> u32
+    requires { ⌜ (y < end) × SomePlay (now prep) r0 r1 c0 c1 ⌝ }
+    ensures { λ z. ⌜ ((s : Sheet) → InPlay s (now (prep .entry)) r0 r1 c0 c1 → z ≡ nextBefore end (rangeBy r0 r1 c0 c1) (playY s) (stepY s) y) ⌝ }
+{
+    let mut best = end - y;
+    let mut c = c0;
+    'cs: while c < c1 {
+        let mut r = r0;
+        'rs: while r < r1 {
+            let at = 8 * (16 * (r as usize) + (c as usize));
+            if prep[at] != 0 {
+                best = nearer(best, prep[at + 2], y);
+            }
+            r += 1;
+        }
+        c += 1;
+    }
+    y + best
+}
+
+pub(crate) fn next_column(
+    prep: &[u32; 4224],
+    r0: u32,
+    r1: u32,
+    c0: u32,
+    c1: u32,
+    y: u32,
+    x: u32,
+    end: u32,
+) -> u32
+    requires { ⌜ (x < end) × SomePlay (now prep) r0 r1 c0 c1 ⌝ }
+    ensures { λ z. ⌜ ((s : Sheet) → InPlay s (now (prep .entry)) r0 r1 c0 c1 → y < 4294967295 → z ≡ nextBefore end (rangeBy r0 r1 c0 c1) (playX s (atRow y)) (stepX s) x) ⌝ }
+{
+    let mut best = end - x;
+    let mut c = c0;
+    'cs: while c < c1 {
+        let mut r = r0;
+        'rs: while r < r1 {
+            let at = 8 * (16 * (r as usize) + (c as usize));
+            if prep[at] != 0 {
+                if hits(y, prep[at + 2], prep[at + 4]) {
+                    best = nearer(best, prep[at + 1], x);
+                }
+            }
+            r += 1;
+        }
+        c += 1;
+    }
+    x + best
+}
