@@ -28,6 +28,7 @@ pub mod Indexing
 pub mod Pointwise
 pub mod Means
 pub mod Bounded
+pub mod Zeros
 pub mod Runs
 pub mod Listing
 pub mod AllRuns

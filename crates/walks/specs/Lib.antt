@@ -7,3 +7,4 @@ pub mod Turns
 pub mod Going
 pub mod PointTurns
 pub mod Rpcl
+pub mod Records
