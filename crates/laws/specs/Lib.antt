@@ -24,10 +24,12 @@ pub mod NestClip
 pub mod NestSkip
 pub mod Below
 pub mod Least
+pub mod Extremes
 pub mod Indexing
 pub mod Pointwise
 pub mod Means
 pub mod Bounded
+pub mod Filled
 pub mod Zeros
 pub mod Runs
 pub mod Listing

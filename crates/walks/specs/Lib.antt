@@ -1,10 +1,22 @@
 -- What the walks go by: numbers prepared for each component and resolution, and what a search answers.
 pub mod Prepared
-pub mod Points
+pub mod Cells
+pub mod Prepare
+pub mod Filling
+pub mod FromSound
 pub mod Nexts
 pub mod Walk
+pub mod Innermost
+pub mod Marks
 pub mod Turns
 pub mod Going
 pub mod PointTurns
+pub mod AtPoint
 pub mod Rpcl
+pub mod Pcrl
+pub mod Cprl
+pub mod Counts
+pub mod Lrcp
+pub mod Rlcp
 pub mod Records
+pub mod Search

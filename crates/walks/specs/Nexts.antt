@@ -1,20 +1,18 @@
 -- The next row or column by distances: what two loops over the components and resolutions in play have found so far. Assumes nothing.
 use Prim.Native.Nat.{ℕ, _+_, _-_, _%_, _≤_, _<_, min, max}
-use mathlib.Core.Path.{_≡_, refl, sym, _∙_}
+use mathlib.Core.Path.{_≡_, sym}
 use mathlib.Core.Bool.{Bool, true, false}
 use mathlib.Core.List.{List}
 use native.Mathlib.Omega.{arith}
-use lib.Dec.{ltb}
 use borrow.Author.Tests.{lt-ltb}
-use Rattle.laws.specs.Least.{least, leastBefore, leastSeen, seen-more, seen-all}
+use Rattle.laws.specs.Least.{leastBefore, leastSeen, seen-more, seen-all}
 use Rattle.laws.specs.Stride.{stride}
 use Rattle.geometry.specs.Precinct.{pick}
-use Rattle.geometry.specs.Line.{hitAt}
-use Rattle.packets.specs.Tile.{Sheet, lineY, precincts}
+use Rattle.packets.specs.Tile.{Sheet, precincts}
 use Rattle.packets.specs.Grid.{stepX, stepY}
 use Rattle.packets.specs.InPlay.{nextInPlay, nextBefore, playX, playY}
-use Rattle.walks.specs.Prepared.{field, widthIn, hitBy, Lines, Entry, InPlay, rangeBy, atRow}
-use Rattle.walks.specs.Points.{some, none, hit-y, pos-x, pos-y}
+use Rattle.walks.specs.Prepared.{field, widthIn, hitBy, Entry, InPlay, rangeBy, atRow}
+use Rattle.walks.specs.Cells.{some, none, hit-y, pos-x, pos-y}
 
 -- the next multiple of the step of resolution r of component c, if it is in play
 abbrev pub onward : (ℕ → ℕ → Bool) → (ℕ → ℕ → ℕ) → ℕ → ℕ → ℕ → ℕ → ℕ

@@ -1,5 +1,5 @@
 -- One turn of a walk at the innermost loops, the same for every order by points: a precinct is met or not, a layer is free or not. Assumes nothing.
-use mathlib.Core.Path.{_≡_, refl, sym, ap, _∙_}
+use mathlib.Core.Path.{_≡_, refl, ap, _∙_}
 use mathlib.Core.Bool.{Bool, true, false}
 use mathlib.Core.List.{List, [], _∷_, _++_}
 use Prim.Native.Nat.{ℕ, _+_, _≤_, _<_}
@@ -7,21 +7,20 @@ use native.Mathlib.Omega.{arith}
 use lib.ListN.{length, getD}
 use lib.Dec.{eqb}
 use Rattle.laws.specs.Gather.{gather}
-use Rattle.laws.specs.Axis.{up, up-grows, axis-end}
-use Rattle.laws.specs.Nest.{Loop, nest, resumed, later, turn-in, turn-out, turn-next}
-use Rattle.laws.specs.Runs.{Answer, Packet, Ended, seek, free, seek-free, seek-taken}
-use Rattle.geometry.specs.Precinct.{pick}
-use Rattle.packets.specs.Tile.{Sheet, precincts, needed, indexOf}
+use Rattle.laws.specs.Axis.{up-grows, axis-end}
+use Rattle.laws.specs.Nest.{Loop, resumed, later, turn-in, turn-out}
+use Rattle.laws.specs.Runs.{Packet, seek}
+use Rattle.packets.specs.Tile.{Sheet, precincts, indexOf}
 use Rattle.packets.specs.Orders.{Range}
 use Rattle.packets.specs.Positions.{met, numberAt, layers, thePrecinct}
-use Rattle.packets.specs.Good.{Good}
 use Rattle.packets.specs.Met.{MetAt, met-small, precincts-in}
 use Rattle.packets.specs.Inside.{Inside}
-use Rattle.packets.specs.Once.{index-below}
 use Rattle.packets.specs.declared.state.State.{State}
 use Rattle.packets.specs.declared.cursor.Position.{Position}
 use Rattle.walks.specs.Prepared.{InPlay, AtPoint, pointOf, pickCell, cellOf}
-use Rattle.walks.specs.Walk.{indexBy, Ranged, Ready}
+use Rattle.walks.specs.Walk.{indexBy, Ready}
+use Rattle.walks.specs.Innermost.{last-out, last-found, last-passed}
+use Rattle.walks.specs.Marks.{fits-mark, has-mark, reads-mark}
 use Rattle.walks.specs.declared.cell.Cell.the-variants.{At, Nothing}
 use Rattle.walks.specs.declared.walk.Walk.{Walk}
 
@@ -46,24 +45,18 @@ module _ (s : Sheet) (g : Range) (sl : Position → ℕ) (p : Position) (o : Lis
 
 -- the layer l is next
 module _ (g : Range) (p : Position) (l : ℕ) (o : List Position) where
-  pub layer-in : l < g .layno1 → resumed (layers g ∷ []) ((λ q. l) ∷ []) p ++ o ≡ layers g .put l p ∷ (resumed (layers g ∷ []) ((λ q. l + 1) ∷ []) p ++ o)
-  unfolding resumed
-  layer-in h =
-      turn-in (layers g) [] (λ q. l) [] p o up-grows h
-      ∙ ap (λ (t : List Position). layers g .put l p ∷ t) (turn-next (layers g) [] (λ q. l + 1) [] p o tt l refl)
-
   pub layer-out : g .layno1 ≤ l → resumed (layers g ∷ []) ((λ q. l) ∷ []) p ++ o ≡ o
-  layer-out h = turn-out (layers g) [] (λ q. l) [] p o h
+  layer-out h = last-out (layers g) p l o h
 
   -- the layer's mark is free: the search ends here; or it is not, and goes on with the next layer
   module _ (st : State) (marks : List ℕ) (h : l < g .layno1) where
     pub layer-found : eqb (getD marks (indexOf st (layers g .put l p)) 0) 0 ≡ true
         → seek (indexOf st) marks (resumed (layers g ∷ []) ((λ q. l) ∷ []) p ++ o) ≡ Packet (layers g .put l p)
-    layer-found e = ap (seek (indexOf st) marks) (layer-in h) ∙ seek-free (indexOf st) marks (layers g .put l p) (resumed (layers g ∷ []) ((λ q. l + 1) ∷ []) p ++ o) e
+    layer-found e = last-found (layers g) p l o refl h st marks e
 
     pub layer-passed : eqb (getD marks (indexOf st (layers g .put l p)) 0) 0 ≡ false
         → seek (indexOf st) marks (resumed (layers g ∷ []) ((λ q. l) ∷ []) p ++ o) ≡ seek (indexOf st) marks (resumed (layers g ∷ []) ((λ q. l + 1) ∷ []) p ++ o)
-    layer-passed e = ap (seek (indexOf st) marks) (layer-in h) ∙ seek-taken (indexOf st) marks (layers g .put l p) (resumed (layers g ∷ []) ((λ q. l + 1) ∷ []) p ++ o) e
+    layer-passed e = last-passed (layers g) p l o refl h st marks e
 
 -- what a cell says
 module _ (s : Sheet) (r c x y : ℕ) where
@@ -135,27 +128,24 @@ module _ (s : Sheet) (g : Range) (prep : List ℕ) (w : Walk) (marks : List ℕ)
     abbrev pub packet : Position
     packet = record { layno = l; resno = r; compno = c; precno = k; x = x; y = y }
 
-    pub mark-stands : (indexBy w l r c k ≡ indexOf (s .st) packet) × (indexBy w l r c k < needed (s .st))
-    unfolding indexBy indexOf met numberAt
-    mark-stands =
-        let q = ready .ranged in
+    component : c < s .st .components
+    component = omega (arith, ready .ranged .components, ready .ranged .compno1, t .comp-to)
+
+    inside : Inside s packet
+    unfolding met numberAt
+    inside =
         let a = at-point r c x y t in
-        let component : c < s .st .components = omega (arith, q .components, q .compno1, t .comp-to) in
-        let deep : l < s .st .layers = omega (arith, q .layers, q .layno1) in
         let meets : MetAt s packet = record { meets = m; number = e; left = a .left; right = a .right; top = a .top; bottom = a .bottom } in
-        let good : Good s = ready .play .good in
-        let small : k < precincts s c r = met-small s good packet component meets in
-        let inside : Inside s packet = record { component = component; resolution = precincts-in s c r (omega arith); precinct = small } in
-        let same : indexBy w l r c k ≡ indexOf (s .st) packet = rw (q .stride-l, q .stride-r, q .stride-c) in
-        (same, rw same (index-below s good packet inside deep))
+        let small : k < precincts s c r = met-small s (ready .play .good) packet component meets in
+        record { component = component; resolution = precincts-in s c r (omega arith); precinct = small }
 
     -- it is below the largest number of marks, and below the marks' number
     pub mark-fits : indexBy w l r c k < 65536
-    mark-fits = omega (arith, mark-stands .1, ready .ranged .few)
+    mark-fits = fits-mark s g w marks (ready .ranged) (ready .play .good) packet inside layer
 
     pub mark-there : indexBy w l r c k < length marks
-    mark-there = omega (arith, mark-stands .1, ready .ranged .enough)
+    mark-there = has-mark s g w marks (ready .ranged) (ready .play .good) packet inside layer
 
     -- what reading it says
     pub mark-read : (i : ℕ) (f t : Bool) → i ≡ indexBy w l r c k → f ≡ eqb (getD marks i 0) 0 → f ≡ t → eqb (getD marks (indexOf (s .st) packet) 0) 0 ≡ t
-    mark-read i f t a b d = ap (λ (j : ℕ). eqb (getD marks j 0) 0) (sym (a ∙ mark-stands .0)) ∙ sym b ∙ d
+    mark-read = reads-mark s g w marks (ready .ranged) (ready .play .good) packet inside layer

@@ -1,13 +1,14 @@
 -- What a walk goes over, and what it answers.
-use Prim.Native.Nat.{ℕ, _+_, _*_, _≤_}
+use Prim.Native.Nat.{ℕ, _+_, _*_, _≤_, _<_}
 use mathlib.Core.Path.{_≡_}
 use mathlib.Core.List.{List}
 use lib.ListN.{length}
 use Rattle.laws.specs.Runs.{Answer, Packet, Ended}
-use Rattle.packets.specs.Tile.{Sheet, strideC, strideR, strideL, needed}
+use Rattle.packets.specs.Tile.{Sheet, strideC, strideR, strideL, needed, precincts}
 use Rattle.packets.specs.Orders.{Range}
+use Rattle.packets.specs.Good.{Good}
 use Rattle.packets.specs.declared.cursor.Position.{Position}
-use Rattle.walks.specs.Prepared.{InPlay}
+use Rattle.walks.specs.Prepared.{InPlay, field}
 use Rattle.walks.specs.declared.walk.Walk.{Walk}
 use Rattle.walks.specs.declared.walk.Found.{Found}
 use Rattle.walks.specs.declared.walk.Found.the-variants as found
@@ -47,3 +48,14 @@ pub record Ready (s : Sheet) (g : Range) (prep : List ℕ) (w : Walk) (marks : L
 
 abbrev pub SomeReady : List ℕ → Walk → List ℕ → Type 0
 SomeReady prep w marks = (s : Sheet) × ((g : Range) × Ready s g prep w marks)
+
+-- a walk by precinct numbers: its precincts are counted too (that the sheet has the components is said by `ranged`)
+pub record Counted (s : Sheet) (g : Range) (prep : List ℕ) (w : Walk) (marks : List ℕ) : Type 0 where
+  pub ranged : Ranged s g w marks
+  pub good : Good s
+  pub resolutions : g .resno1 ≤ 33
+  pub components : g .compno1 ≤ 16
+  pub counts : (r c : ℕ) → g .resno0 ≤ r → r < g .resno1 → g .compno0 ≤ c → c < g .compno1 → field prep r c 7 ≡ precincts s c r
+
+abbrev pub SomeCounted : List ℕ → Walk → List ℕ → Type 0
+SomeCounted prep w marks = (s : Sheet) × ((g : Range) × Counted s g prep w marks)

@@ -1,6 +1,6 @@
 -- `cell_at`: the prepared numbers answer at a point as the sheet does (Points); one sheet that they stand for shows that no step is 0 and that nothing wraps. Assumes nothing.
 use Rattle.walks.specs.Prepared.{widthIn}
-use Rattle.walks.specs.Points.{cell-none, cell-no-row, cell-no-column, cell-met, step-pos-x, step-pos-y, column-from, row-from, number-small}
+use Rattle.walks.specs.Cells.{cell-none, cell-no-row, cell-no-column, cell-met, step-pos-x, step-pos-y, column-from, row-from, number-small}
 use Rattle.laws.specs.Cases.{not-true, not-false}
 use Prim.Native.Nat.{_<_}
 use mathlib.Core.Path.{sym, _∙_}
@@ -26,7 +26,9 @@ element-copy-out-width : tie.Need-element-copy-out-width
 element-copy-out-width c = search needs
 
 returns : tie.Need-returns
-returns c = let a = c .before .before .args in let w = c .before .before .pre in λ s h. cell-none (s) (now (a .prep)) (a .r) (a .c) (a .x) (a .y) (h) (c .if1 .taken)
+returns c =
+    let a = c .before .before .args in
+    λ s h. cell-none s (now (a .prep)) (a .r) (a .c) (a .x) (a .y) h (c .if1 .taken)
 
 add-step-y : tie.Need-add-step-y
 add-step-y c = search needs
@@ -47,10 +49,17 @@ element-copy-out-hits : tie.Need-element-copy-out-hits
 element-copy-out-hits c = search needs
 
 hits-requires : tie.Need-hits-requires
-hits-requires c κs = let a = c .before .before .before .before .args in let w = c .before .before .before .before .pre in step-pos-y (w .0) (now (a .prep)) (a .r) (a .c) (a .x) (a .y) (w .1) (omega (arith, c .before .before .if1 .left))
+hits-requires c κs =
+    let a = c .before .before .before .before .args in
+    let w = c .before .before .before .before .pre in
+    step-pos-y (w .0) (now (a .prep)) (a .r) (a .c) (a .x) (a .y) (w .1) (omega (arith, c .before .before .if1 .left))
 
 returns-2 : tie.Need-returns-2
-returns-2 c = let a = c .before .before .before .before .before .before .args in let w = c .before .before .before .before .before .before .pre in let n : 0 < widthIn (now (a .prep)) (a .r) (a .c) = omega (arith, c .before .before .before .before .if1 .left) in let z = sym (c .before .hits .ensures) ∙ not-true _ (c .if2 .taken) in λ s h. cell-no-row (s) (now (a .prep)) (a .r) (a .c) (a .x) (a .y) (h) n z
+returns-2 c =
+    let a = c .before .before .before .before .before .before .args in
+    let n : 0 < widthIn (now (a .prep)) (a .r) (a .c) = omega (arith, c .before .before .before .before .if1 .left) in
+    let z = sym (c .before .hits .ensures) ∙ not-true _ (c .if2 .taken) in
+    λ s h. cell-no-row s (now (a .prep)) (a .r) (a .c) (a .x) (a .y) h n z
 
 add-step-x : tie.Need-add-step-x
 add-step-x c = search needs
@@ -71,13 +80,24 @@ element-copy-out-hits-2 : tie.Need-element-copy-out-hits-2
 element-copy-out-hits-2 c = search needs
 
 hits-requires-2 : tie.Need-hits-requires-2
-hits-requires-2 c κs = let a = c .before .before .before .before .before .before .before .before .args in let w = c .before .before .before .before .before .before .before .before .pre in step-pos-x (w .0) (now (a .prep)) (a .r) (a .c) (a .x) (a .y) (w .1) (omega (arith, c .before .before .before .before .before .before .if1 .left))
+hits-requires-2 c κs =
+    let a = c .before .before .before .before .before .before .before .before .args in
+    let w = c .before .before .before .before .before .before .before .before .pre in
+    step-pos-x (w .0) (now (a .prep)) (a .r) (a .c) (a .x) (a .y) (w .1) (omega (arith, c .before .before .before .before .before .before .if1 .left))
 
 returns-3 : tie.Need-returns-3
-returns-3 c = let a = c .before .before .before .before .before .before .before .before .before .before .args in let w = c .before .before .before .before .before .before .before .before .before .before .pre in let n : 0 < widthIn (now (a .prep)) (a .r) (a .c) = omega (arith, c .before .before .before .before .before .before .before .before .if1 .left) in let p = sym (c .before .before .before .before .before .hits .ensures) ∙ not-false _ (c .before .before .before .before .if2 .left) in let z = sym (c .before .hits2 .ensures) ∙ not-true _ (c .if3 .taken) in λ s h. cell-no-column (s) (now (a .prep)) (a .r) (a .c) (a .x) (a .y) (h) n p z
+returns-3 c =
+    let a = c .before .before .before .before .before .before .before .before .before .before .args in
+    let n : 0 < widthIn (now (a .prep)) (a .r) (a .c) = omega (arith, c .before .before .before .before .before .before .before .before .if1 .left) in
+    let p = sym (c .before .before .before .before .before .hits .ensures) ∙ not-false _ (c .before .before .before .before .if2 .left) in
+    let z = sym (c .before .hits2 .ensures) ∙ not-true _ (c .if3 .taken) in
+    λ s h. cell-no-column s (now (a .prep)) (a .r) (a .c) (a .x) (a .y) h n p z
 
 div-column : tie.Need-div-column
-div-column c = let a = c .before .before .before .before .before .before .before .before .before .before .args in let w = c .before .before .before .before .before .before .before .before .before .before .pre in step-pos-x (w .0) (now (a .prep)) (a .r) (a .c) (a .x) (a .y) (w .1) (omega (arith, c .before .before .before .before .before .before .before .before .if1 .left))
+div-column c =
+    let a = c .before .before .before .before .before .before .before .before .before .before .args in
+    let w = c .before .before .before .before .before .before .before .before .before .before .pre in
+    step-pos-x (w .0) (now (a .prep)) (a .r) (a .c) (a .x) (a .y) (w .1) (omega (arith, c .before .before .before .before .before .before .before .before .if1 .left))
 
 add-column : tie.Need-add-column
 add-column c = search needs
@@ -89,10 +109,19 @@ element-copy-out-column : tie.Need-element-copy-out-column
 element-copy-out-column c = search needs
 
 sub-column : tie.Need-sub-column
-sub-column c = let a = c .before .before .before .before .before .before .before .before .before .before .before .args in let w = c .before .before .before .before .before .before .before .before .before .before .before .pre in let n : 0 < widthIn (now (a .prep)) (a .r) (a .c) = omega (arith, c .before .before .before .before .before .before .before .before .before .if1 .left) in let p = sym (c .before .before .before .before .before .before .hits .ensures) ∙ not-false _ (c .before .before .before .before .before .if2 .left) in let q = sym (c .before .before .hits2 .ensures) ∙ not-false _ (c .before .if3 .left) in column-from (w .0) (now (a .prep)) (a .r) (a .c) (a .x) (a .y) (w .1) n p q
+sub-column c =
+    let a = c .before .before .before .before .before .before .before .before .before .before .before .args in
+    let w = c .before .before .before .before .before .before .before .before .before .before .before .pre in
+    let n : 0 < widthIn (now (a .prep)) (a .r) (a .c) = omega (arith, c .before .before .before .before .before .before .before .before .before .if1 .left) in
+    let p = sym (c .before .before .before .before .before .before .hits .ensures) ∙ not-false _ (c .before .before .before .before .before .if2 .left) in
+    let q = sym (c .before .before .hits2 .ensures) ∙ not-false _ (c .before .if3 .left) in
+    column-from (w .0) (now (a .prep)) (a .r) (a .c) (a .x) (a .y) (w .1) n p q
 
 div-row : tie.Need-div-row
-div-row c = let a = c .before .before .before .before .before .before .before .before .before .before .before .args in let w = c .before .before .before .before .before .before .before .before .before .before .before .pre in step-pos-y (w .0) (now (a .prep)) (a .r) (a .c) (a .x) (a .y) (w .1) (omega (arith, c .before .before .before .before .before .before .before .before .before .if1 .left))
+div-row c =
+    let a = c .before .before .before .before .before .before .before .before .before .before .before .args in
+    let w = c .before .before .before .before .before .before .before .before .before .before .before .pre in
+    step-pos-y (w .0) (now (a .prep)) (a .r) (a .c) (a .x) (a .y) (w .1) (omega (arith, c .before .before .before .before .before .before .before .before .before .if1 .left))
 
 add-row : tie.Need-add-row
 add-row c = search needs
@@ -104,16 +133,39 @@ element-copy-out-row : tie.Need-element-copy-out-row
 element-copy-out-row c = search needs
 
 sub-row : tie.Need-sub-row
-sub-row c = let a = c .before .before .before .before .before .before .before .before .before .before .before .before .args in let w = c .before .before .before .before .before .before .before .before .before .before .before .before .pre in let n : 0 < widthIn (now (a .prep)) (a .r) (a .c) = omega (arith, c .before .before .before .before .before .before .before .before .before .before .if1 .left) in let p = sym (c .before .before .before .before .before .before .before .hits .ensures) ∙ not-false _ (c .before .before .before .before .before .before .if2 .left) in let q = sym (c .before .before .before .hits2 .ensures) ∙ not-false _ (c .before .before .if3 .left) in row-from (w .0) (now (a .prep)) (a .r) (a .c) (a .x) (a .y) (w .1) n p q
+sub-row c =
+    let a = c .before .before .before .before .before .before .before .before .before .before .before .before .args in
+    let w = c .before .before .before .before .before .before .before .before .before .before .before .before .pre in
+    let n : 0 < widthIn (now (a .prep)) (a .r) (a .c) = omega (arith, c .before .before .before .before .before .before .before .before .before .before .if1 .left) in
+    let p = sym (c .before .before .before .before .before .before .before .hits .ensures) ∙ not-false _ (c .before .before .before .before .before .before .if2 .left) in
+    let q = sym (c .before .before .before .hits2 .ensures) ∙ not-false _ (c .before .before .if3 .left) in
+    row-from (w .0) (now (a .prep)) (a .r) (a .c) (a .x) (a .y) (w .1) n p q
 
 mul-t18 : tie.Need-mul-t18
-mul-t18 c = let a = c .before .before .before .before .before .before .before .before .before .before .before .before .args in let w = c .before .before .before .before .before .before .before .before .before .before .before .before .pre in let n : 0 < widthIn (now (a .prep)) (a .r) (a .c) = omega (arith, c .before .before .before .before .before .before .before .before .before .before .if1 .left) in let p = sym (c .before .before .before .before .before .before .before .hits .ensures) ∙ not-false _ (c .before .before .before .before .before .before .if2 .left) in let q = sym (c .before .before .before .hits2 .ensures) ∙ not-false _ (c .before .before .if3 .left) in omega (arith, number-small (w .0) (now (a .prep)) (a .r) (a .c) (a .x) (a .y) (w .1) n p q)
+mul-t18 c =
+    let a = c .before .before .before .before .before .before .before .before .before .before .before .before .args in
+    let w = c .before .before .before .before .before .before .before .before .before .before .before .before .pre in
+    let n : 0 < widthIn (now (a .prep)) (a .r) (a .c) = omega (arith, c .before .before .before .before .before .before .before .before .before .before .if1 .left) in
+    let p = sym (c .before .before .before .before .before .before .before .hits .ensures) ∙ not-false _ (c .before .before .before .before .before .before .if2 .left) in
+    let q = sym (c .before .before .before .hits2 .ensures) ∙ not-false _ (c .before .before .if3 .left) in
+    omega (arith, number-small (w .0) (now (a .prep)) (a .r) (a .c) (a .x) (a .y) (w .1) n p q)
 
 add-t31 : tie.Need-add-t31
-add-t31 c = let a = c .before .before .before .before .before .before .before .before .before .before .before .before .args in let w = c .before .before .before .before .before .before .before .before .before .before .before .before .pre in let n : 0 < widthIn (now (a .prep)) (a .r) (a .c) = omega (arith, c .before .before .before .before .before .before .before .before .before .before .if1 .left) in let p = sym (c .before .before .before .before .before .before .before .hits .ensures) ∙ not-false _ (c .before .before .before .before .before .before .if2 .left) in let q = sym (c .before .before .before .hits2 .ensures) ∙ not-false _ (c .before .before .if3 .left) in omega (arith, number-small (w .0) (now (a .prep)) (a .r) (a .c) (a .x) (a .y) (w .1) n p q)
+add-t31 c =
+    let a = c .before .before .before .before .before .before .before .before .before .before .before .before .args in
+    let w = c .before .before .before .before .before .before .before .before .before .before .before .before .pre in
+    let n : 0 < widthIn (now (a .prep)) (a .r) (a .c) = omega (arith, c .before .before .before .before .before .before .before .before .before .before .if1 .left) in
+    let p = sym (c .before .before .before .before .before .before .before .hits .ensures) ∙ not-false _ (c .before .before .before .before .before .before .if2 .left) in
+    let q = sym (c .before .before .before .hits2 .ensures) ∙ not-false _ (c .before .before .if3 .left) in
+    omega (arith, number-small (w .0) (now (a .prep)) (a .r) (a .c) (a .x) (a .y) (w .1) n p q)
 
 returns-4 : tie.Need-returns-4
-returns-4 c = let a = c .before .before .before .before .before .before .before .before .before .before .before .before .args in let w = c .before .before .before .before .before .before .before .before .before .before .before .before .pre in let n : 0 < widthIn (now (a .prep)) (a .r) (a .c) = omega (arith, c .before .before .before .before .before .before .before .before .before .before .if1 .left) in let p = sym (c .before .before .before .before .before .before .before .hits .ensures) ∙ not-false _ (c .before .before .before .before .before .before .if2 .left) in let q = sym (c .before .before .before .hits2 .ensures) ∙ not-false _ (c .before .before .if3 .left) in λ s h. cell-met (s) (now (a .prep)) (a .r) (a .c) (a .x) (a .y) (h) n p q
+returns-4 c =
+    let a = c .before .before .before .before .before .before .before .before .before .before .before .before .args in
+    let n : 0 < widthIn (now (a .prep)) (a .r) (a .c) = omega (arith, c .before .before .before .before .before .before .before .before .before .before .if1 .left) in
+    let p = sym (c .before .before .before .before .before .before .before .hits .ensures) ∙ not-false _ (c .before .before .before .before .before .before .if2 .left) in
+    let q = sym (c .before .before .before .hits2 .ensures) ∙ not-false _ (c .before .before .if3 .left) in
+    λ s h. cell-met s (now (a .prep)) (a .r) (a .c) (a .x) (a .y) h n p q
 
 pub cell-at-spec : {M : Type 1} → statement M
 cell-at-spec =

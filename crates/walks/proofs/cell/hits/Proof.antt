@@ -1,6 +1,5 @@
 -- `hits`: the definition tests the remainder first and then the start. Assumes nothing.
 use Prim.Native.Nat.{_%_}
-use native.Mathlib.Omega.{arith}
 use borrow.Author.Tests.{eq-eqb, ne-eqb}
 use borrow.Author.Needs.{needs}
 use Rattle.walks.proofs.cell.hits.Statement.{statement}

@@ -33,10 +33,14 @@ sub-best : tie.Need-sub-best Inv-rs μ-rs Inv-cs μ-cs
 sub-best c = omega arith
 
 cs-holds : tie.Need-cs-holds Inv-rs μ-rs Inv-cs μ-cs
-cs-holds c = let a = c .args in (omega arith, omega arith, omega arith, λ s h. rw (seen-none (a .end) (onward (playY s) (stepY s) (a .end) (a .y)) (a .r0) (a .r1) (a .c0)) (omega arith))
+cs-holds c =
+    let a = c .args in
+    (omega arith, omega arith, omega arith, λ s h. rw (seen-none (a .end) (onward (playY s) (stepY s) (a .end) (a .y)) (a .r0) (a .r1) (a .c0)) (omega arith))
 
 rs-holds : tie.Need-rs-holds Inv-rs μ-rs Inv-cs μ-cs
-rs-holds c = let a = c .before .before .args in (omega arith, omega arith, omega arith, λ s h. rw (seen-enter (a .end) (onward (playY s) (stepY s) (a .end) (a .y)) (a .r0) (a .r1) (a .c0) (c .before .cs .c)) (c .before .cs .inv .3 s h))
+rs-holds c =
+    let a = c .before .before .args in
+    (omega arith, omega arith, omega arith, λ s h. rw (seen-enter (a .end) (onward (playY s) (stepY s) (a .end) (a .y)) (a .r0) (a .r1) (a .c0) (c .before .cs .c)) (c .before .cs .inv .3 s h))
 
 cast-at : tie.Need-cast-at Inv-rs μ-rs Inv-cs μ-cs
 cast-at c = let k = c .before .before .before .before .pre .1 .1 in omega (arith, k .resolutions, k .components)
@@ -69,7 +73,10 @@ element-copy-out-nearer : tie.Need-element-copy-out-nearer Inv-rs μ-rs Inv-cs �
 element-copy-out-nearer c = let k = c .before .before .before .before .before .before .pre .1 .1 in omega (arith, k .resolutions, k .components)
 
 nearer-requires : tie.Need-nearer-requires Inv-rs μ-rs Inv-cs μ-cs
-nearer-requires c κs = let a = c .before .before .before .before .before .before .before .args in let w = c .before .before .before .before .before .before .before .pre in play-y (w .1 .0) (now (a .prep)) (a .r0) (a .r1) (a .c0) (a .c1) (c .before .before .before .before .rs .r) (c .before .before .before .before .before .before .cs .c) (w .1 .1) (omega arith) (omega arith) (omega arith) (omega arith) (omega (arith, c .before .if1 .taken))
+nearer-requires c κs =
+    let a = c .before .before .before .before .before .before .before .args in
+    let w = c .before .before .before .before .before .before .before .pre in
+    play-y (w .1 .0) (now (a .prep)) (a .r0) (a .r1) (a .c0) (a .c1) (c .before .before .before .before .rs .r) (c .before .before .before .before .before .before .cs .c) (w .1 .1) (omega arith) (omega arith) (omega arith) (omega arith) (omega (arith, c .before .if1 .taken))
 
 add-r : tie.Need-add-r Inv-rs μ-rs Inv-cs μ-cs
 add-r c = omega arith
@@ -78,7 +85,8 @@ rs-less : tie.Need-rs-less Inv-rs μ-rs Inv-cs μ-cs
 rs-less c = omega arith
 
 rs-again : tie.Need-rs-again Inv-rs μ-rs Inv-cs μ-cs
-rs-again c = let a = c .before .before .before .before .before .before .args in
+rs-again c =
+    let a = c .before .before .before .before .before .before .args in
     let o = c .before .before .before .before .before .cs in
     let i = c .before .before .before .rs in
     let at : (s : Sheet) → InPlay s (now (a .prep)) (a .r0) (a .r1) (a .c0) (a .c1) → Entry s (now (a .prep)) (i .r) (o .c)
@@ -113,13 +121,17 @@ cs-less : tie.Need-cs-less Inv-rs μ-rs Inv-cs μ-cs
 cs-less c = omega arith
 
 cs-again : tie.Need-cs-again Inv-rs μ-rs Inv-cs μ-cs
-cs-again c = let a = c .before .before .before .before .args in (omega arith, omega arith, omega arith, λ s h. c .before .rs .inv .3 s h ∙ seen-leave (a .end) (onward (playY s) (stepY s) (a .end) (a .y)) (a .r0) (a .r1) (a .c0) (c .before .before .before .cs .c) (c .before .rs .r) (omega arith) (omega arith) (omega arith) (omega arith))
+cs-again c =
+    let a = c .before .before .before .before .args in
+    (omega arith, omega arith, omega arith, λ s h. c .before .rs .inv .3 s h ∙ seen-leave (a .end) (onward (playY s) (stepY s) (a .end) (a .y)) (a .r0) (a .r1) (a .c0) (c .before .before .before .cs .c) (c .before .rs .r) (omega arith) (omega arith) (omega arith) (omega arith))
 
 add-result : tie.Need-add-result Inv-rs μ-rs Inv-cs μ-cs
 add-result c = omega arith
 
 returns : tie.Need-returns Inv-rs μ-rs Inv-cs μ-cs
-returns c = let a = c .before .before .args in λ s h. c .before .cs .inv .3 s h ∙ next-all (playY s) (stepY s) (a .end) (a .y) (a .r0) (a .r1) (a .c0) (a .c1) (c .before .cs .c) (c .before .before .pre .0) (omega arith) (omega arith) (omega arith)
+returns c =
+    let a = c .before .before .args in
+    λ s h. c .before .cs .inv .3 s h ∙ next-all (playY s) (stepY s) (a .end) (a .y) (a .r0) (a .r1) (a .c0) (a .c1) (c .before .cs .c) (c .before .before .pre .0) (omega arith) (omega arith) (omega arith)
 
 pub next-row-spec : {M : Type 1} → statement M
 next-row-spec =

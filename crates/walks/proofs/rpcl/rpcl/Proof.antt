@@ -1,25 +1,26 @@
 -- `rpcl` meets its contract. Each of the five loops keeps one thing, for every sheet and range that the walk is ready for (`Kept`): nothing is found yet, and
 -- what is left at this loop answers as what was to be searched at entry. So a turn is one law of specs/Rpcl: LOOP-holds is an `in` law, LOOP-again an `out` law of
--- the inner loop and a `next` law. `left` says what holds where the loops have been left. Assumes nothing.
-use Rattle.walks.specs.Prepared.{pointOf, cellOf}
-use Rattle.packets.specs.Positions.{met, numberAt}
-use Rattle.packets.specs.Orders.{Range}
-use Rattle.packets.specs.Tile.{Sheet}
-use Rattle.packets.specs.InPlay.{nextX, nextY, next-x-grows, next-y-grows}
-use Rattle.packets.specs.Strided.{oneResolution}
-use Rattle.packets.specs.InPlay.{next-x-grows, next-y-grows}
-use Rattle.walks.specs.Turns.{Stands, at-point, in-play, cell-met, cell-missed, mark-fits, mark-there, mark-read}
+-- the inner loop and a `next` law; the innermost loops go by specs/AtPoint. `left` says what holds where the loops have been left. Assumes nothing.
 use borrow.Author.Needs.{needs}
 use mathlib.Core.Path.{_≡_, refl, sym, ap, _∙_}
-use mathlib.Core.Bool.{Bool, true, false}
+use mathlib.Core.Bool.{Bool, true}
 use mathlib.Core.List.{List}
 use mathlib.Core.Logic.{⊎-elim}
-use Prim.Native.Nat.{ℕ, _+_, _-_, _≤_, _<_}
+use Prim.Native.Nat.{ℕ, _-_, _≤_, _<_}
 use native.Mathlib.Omega.{arith}
 use Rattle.laws.specs.Runs.{seek}
+use Rattle.packets.specs.Tile.{Sheet}
+use Rattle.packets.specs.Orders.{Range}
+use Rattle.packets.specs.Positions.{met, numberAt}
+use Rattle.packets.specs.Strided.{oneResolution}
+use Rattle.packets.specs.InPlay.{nextX, nextY}
+use Rattle.packets.specs.declared.cursor.Position.{Position}
+use Rattle.walks.specs.Prepared.{pointOf, cellOf}
 use Rattle.walks.specs.Walk.{Ready}
+use Rattle.walks.specs.Turns.{Stands, at-point, in-play, cell-met, cell-missed, mark-fits, mark-there, mark-read}
 use Rattle.walks.specs.Going.{Going, Rest, Left, onward, passed, left-out, left-found}
-use Rattle.walks.specs.Rpcl.{entry, enter, leftR, leftY, leftX, leftC, leftK, leftL, afterR, afterY, afterX, afterC, inR, outR, inY, outY, inX, outX, inC, outC, meets, misses, outL, foundL, passL, onC, onX, onY, onR, atRes, inRow, column-is, row-is}
+use Rattle.walks.specs.AtPoint.{leftL, meets, misses, outL, foundL, passL}
+use Rattle.walks.specs.Rpcl.{entry, enter, leftR, leftY, leftX, leftC, afterC, inR, outR, onR, inY, outY, onY, inX, outX, onX, inC, outC, onC, column-is, row-is}
 use Rattle.walks.specs.declared.walk.Walk.{Walk}
 use Rattle.walks.proofs.rpcl.rpcl.Statement.{statement}
 use Rattle.walks.proofs.rpcl.rpcl.Tie as tie
@@ -30,7 +31,7 @@ Kept marks prep w r y x c l found rest = Going (λ s g. Ready s g prep w marks) 
 
 abbrev Inv-ls : tie.InvT-ls
 Inv-ls marks prep w r-from y-from x-from c-from l-from layno1 resno1 compno0 compno1 tx0 ty0 tx1 ty1 y-at x-at c-at l-at found₀ place₀ r y x c k l₀ found place l =
-    Kept marks prep w r-from y-from x-from c-from l-from found (leftL r y x c k l)
+    Kept marks prep w r-from y-from x-from c-from l-from found (leftL (afterC r y x c) r c x y k l)
 
 abbrev μ-ls : tie.MeasureT-ls
 μ-ls marks prep w r-from y-from x-from c-from l-from layno1 resno1 compno0 compno1 tx0 ty0 tx1 ty1 y-at x-at c-at l-at found₀ place₀ r y x c k l₀ found place l =
@@ -68,7 +69,15 @@ abbrev μ-search : tie.MeasureT-search
 μ-search marks prep w r-from y-from x-from c-from l-from layno1 resno1 compno0 compno1 tx0 ty0 tx1 ty1 y-at₀ x-at₀ c-at₀ l-at₀ found₀ place₀ r₀ y-at x-at c-at l-at found place r =
     w .resno1 - r
 
--- the numbers of the loops stand inside the ranges and the tile
+-- the walk is ready for a sheet and a range
+abbrev ReadyIn : tie.In-search Inv-ls μ-ls Inv-cs μ-cs Inv-xs μ-xs Inv-ys μ-ys Inv-search μ-search → Sheet → Range → Type 0
+ReadyIn c s g = let a = c .before .before .before .args in Ready s g (a .prep .now) (a .w) (a .marks .now)
+
+-- the point at which the loops stand
+abbrev here : tie.In-cs Inv-ls μ-ls Inv-cs μ-cs Inv-xs μ-xs Inv-ys μ-ys Inv-search μ-search → Position
+here c = pointOf (c .before .before .before .before .before .before .before .search .r) (c .before .cs .c) (c .before .before .before .xs .x) (c .before .before .before .before .before .ys .y)
+
+-- their numbers stand inside the ranges and the tile
 stands : (c : tie.In-cs Inv-ls μ-ls Inv-cs μ-cs Inv-xs μ-xs Inv-ys μ-ys Inv-search μ-search) → Stands (c .before .before .before .before .before .before .before .before .before .args .w) (c .before .before .before .before .before .before .before .search .r) (c .before .cs .c) (c .before .before .before .xs .x) (c .before .before .before .before .before .ys .y)
 stands c =
     record {
@@ -84,31 +93,39 @@ stands c =
 
 -- what the cell answers, for every sheet that the walk is ready for
 cell-is : (c : tie.After-cell-at Inv-ls μ-ls Inv-cs μ-cs Inv-xs μ-xs Inv-ys μ-ys Inv-search μ-search) (s : Sheet) (g : Range)
-    → Ready s g (c .before .before .before .before .before .before .before .before .before .before .args .prep .now) (c .before .before .before .before .before .before .before .before .before .before .args .w) (c .before .before .before .before .before .before .before .before .before .before .args .marks .now)
+    → ReadyIn (c .before .before .before .before .before .before .before) s g
     → c .cell-at .result ≡ cellOf s (c .before .before .before .before .before .before .before .before .search .r) (c .before .before .cs .c) (c .before .before .before .before .xs .x) (c .before .before .before .before .before .before .ys .y)
 cell-is c s g h = c .cell-at .ensures s (at-point s g _ _ _ h _ _ _ _ (stands (c .before)))
 
 met-here : (c : tie.In-ls Inv-ls μ-ls Inv-cs μ-cs Inv-xs μ-xs Inv-ys μ-ys Inv-search μ-search) (s : Sheet) (g : Range)
-    → Ready s g (c .before .before .before .before .before .before .before .before .before .before .before .before .before .before .before .args .prep .now) (c .before .before .before .before .before .before .before .before .before .before .before .before .before .before .before .args .w) (c .before .before .before .before .before .before .before .before .before .before .before .before .before .before .before .args .marks .now)
-    → (met s (pointOf (c .before .before .before .before .before .before .before .before .before .before .before .before .before .search .r) (c .before .before .before .before .before .before .before .cs .c) (c .before .before .before .before .before .before .before .before .before .xs .x) (c .before .before .before .before .before .before .before .before .before .before .before .ys .y)) ≡ true) × (c .before .before .before .k .given .0 .0 ≡ numberAt s (pointOf (c .before .before .before .before .before .before .before .before .before .before .before .before .before .search .r) (c .before .before .before .before .before .before .before .cs .c) (c .before .before .before .before .before .before .before .before .before .xs .x) (c .before .before .before .before .before .before .before .before .before .before .before .ys .y)))
+    → ReadyIn (c .before .before .before .before .before .before .before .before .before .before .before .before) s g
+    → (met s (here (c .before .before .before .before .before .before)) ≡ true) × (c .before .before .before .k .given .0 .0 ≡ numberAt s (here (c .before .before .before .before .before .before)))
 met-here c s g h = cell-met s _ _ _ _ _ (sym (cell-is (c .before .before .before .before .before) s g h) ∙ c .before .before .before .k .given .1)
 
--- the next column and row, for every such sheet
+-- the next column and row, for every such sheet; and they grow
 column-here : (c : tie.After-next-column Inv-ls μ-ls Inv-cs μ-cs Inv-xs μ-xs Inv-ys μ-ys Inv-search μ-search) (s : Sheet) (g : Range)
-    → Ready s g (c .before .before .before .before .before .before .before .before .before .before .args .prep .now) (c .before .before .before .before .before .before .before .before .before .before .args .w) (c .before .before .before .before .before .before .before .before .before .before .args .marks .now)
-    → c .next-column .result ≡ nextX s g oneResolution (inRow (c .before .before .before .before .before .before .before .before .search .r) (c .before .before .before .before .before .before .ys .y)) (c .before .before .before .before .xs .x)
+    → ReadyIn (c .before .before .before .before .before .before .before) s g
+    → (c .next-column .result ≡ nextX s g oneResolution (pointOf (c .before .before .before .before .before .before .before .before .search .r) 0 0 (c .before .before .before .before .before .before .ys .y)) (c .before .before .before .before .xs .x))
+    × (c .before .before .before .before .xs .x < c .next-column .result)
 column-here c s g h =
     column-is s g _ _ _ h _ _ _ _
     (c .next-column .ensures s
     (in-play s g _ _ _ h _ _ _ _ (c .before .before .before .before .before .before .before .before .search .inv .0) (omega (arith, c .before .before .before .before .before .before .before .search-test .taken)) (omega arith) (omega arith))
     (omega (arith, c .before .before .before .before .before .ys-test .taken, h .ranged .ty1, h .play .ends-y)))
 
+column-up : (c : tie.After-next-column Inv-ls μ-ls Inv-cs μ-cs Inv-xs μ-xs Inv-ys μ-ys Inv-search μ-search) → c .before .before .before .before .xs .x < c .next-column .result
+column-up c = let p = c .before .before .before .before .before .before .before .before .before .before .pre .0 in column-here c (p .0) (p .1 .0) (p .1 .1) .1
+
 row-here : (c : tie.After-next-row Inv-ls μ-ls Inv-cs μ-cs Inv-xs μ-xs Inv-ys μ-ys Inv-search μ-search) (s : Sheet) (g : Range)
-    → Ready s g (c .before .before .before .before .before .before .before .before .args .prep .now) (c .before .before .before .before .before .before .before .before .args .w) (c .before .before .before .before .before .before .before .before .args .marks .now)
-    → c .next-row .result ≡ nextY s g oneResolution (atRes (c .before .before .before .before .before .before .search .r)) (c .before .before .before .before .ys .y)
+    → ReadyIn (c .before .before .before .before .before) s g
+    → (c .next-row .result ≡ nextY s g oneResolution (pointOf (c .before .before .before .before .before .before .search .r) 0 0 0) (c .before .before .before .before .ys .y))
+    × (c .before .before .before .before .ys .y < c .next-row .result)
 row-here c s g h =
     row-is s g _ _ _ h _ _ _
     (c .next-row .ensures s (in-play s g _ _ _ h _ _ _ _ (c .before .before .before .before .before .before .search .inv .0) (omega (arith, c .before .before .before .before .before .search-test .taken)) (omega arith) (omega arith)))
+
+row-up : (c : tie.After-next-row Inv-ls μ-ls Inv-cs μ-cs Inv-xs μ-xs Inv-ys μ-ys Inv-search μ-search) → c .before .before .before .before .ys .y < c .next-row .result
+row-up c = let p = c .before .before .before .before .before .before .before .before .pre .0 in row-here c (p .0) (p .1 .0) (p .1 .1) .1
 
 search-holds :
     tie.Need-search-holds Inv-ls μ-ls Inv-cs μ-cs Inv-xs μ-xs Inv-ys μ-ys Inv-search μ-search
@@ -135,7 +152,7 @@ ls-holds : tie.Need-ls-holds Inv-ls μ-ls Inv-cs μ-cs Inv-xs μ-xs Inv-ys μ-ys
 ls-holds c = onward _ _ _ _ _ refl (c .before .before .before .before .before .cs .inv .1)
     (λ s g h.
     let m = cell-met s _ _ _ _ _ (sym (cell-is (c .before .before .before) s g h) ∙ c .before .k .given .1) in
-    inC s g _ _ _ _ _ (rw (h .ranged .compno1) at (c .before .before .before .before .cs-test .taken)) ∙ meets s g _ _ _ _ _ _ (m .0) (m .1))
+    inC s g _ _ _ _ _ (rw (h .ranged .compno1) at (c .before .before .before .before .cs-test .taken)) ∙ meets s g _ _ _ _ _ _ _ (m .0) (m .1))
 
 index-requires :
     tie.Need-index-requires Inv-ls μ-ls Inv-cs μ-cs Inv-xs μ-xs Inv-ys μ-ys Inv-search μ-search
@@ -159,8 +176,9 @@ ls-again : tie.Need-ls-again Inv-ls μ-ls Inv-cs μ-cs Inv-xs μ-xs Inv-ys μ-ys
 ls-again c = passed _ _ _ _ _ refl (c .before .before .before .before .ls .inv)
     (λ s g h.
     let m = met-here (c .before .before .before) s g h in
-    passL s g _ _ _ _ _ _ _ (rw (h .ranged .layno1) at (c .before .before .before .ls-test .taken))
-    (mark-read s g _ _ _ h _ _ _ _ _ _ (stands (c .before .before .before .before .before .before .before .before .before)) (c .before .before .before .ls-test .taken) (m .0) (m .1) _ _ _ (c .before .before .index .ensures) (c .before .is-free .ensures) (c .if1 .left)))
+    passL s g _ _ _ _ _ _ _ _ (rw (h .ranged .layno1) at (c .before .before .before .ls-test .taken))
+    (mark-read s g _ _ _ h _ _ _ _ _ _ (stands (c .before .before .before .before .before .before .before .before .before)) (c .before .before .before .ls-test .taken) (m .0) (m .1) _ _ _
+    (c .before .before .index .ensures) (c .before .is-free .ensures) (c .if1 .left)))
 
 enum-told : tie.Need-enum-told Inv-ls μ-ls Inv-cs μ-cs Inv-xs μ-xs Inv-ys μ-ys Inv-search μ-search
 enum-told c = search needs
@@ -175,13 +193,13 @@ cs-again : tie.Need-cs-again Inv-ls μ-ls Inv-cs μ-cs Inv-xs μ-xs Inv-ys μ-ys
 cs-again c = (
   omega (arith, c .before .before .before .cs .inv .0),
   ⊎-elim
-      (λ w. onward _ _ _ _ _ (w .5) (w .3 .inv) (λ s g h. outL s g _ _ _ _ _ _ (rw (h .ranged .layno1) at (w .4 .left)) ∙ onC s g _ _ _ _ 0 0 0))
+      (λ w. onward _ _ _ _ _ (w .5) (w .3 .inv) (λ s g h. outL s g _ _ _ _ _ _ _ (rw (h .ranged .layno1) at (w .4 .left)) ∙ onC s g _ _ _ _))
       (λ w.
       onward _ _ _ _ _ (w .2) (c .before .before .before .cs .inv .1)
       (λ s g h.
       inC s g _ _ _ _ _ (rw (h .ranged .compno1) at (c .before .before .cs-test .taken))
-      ∙ misses s g _ _ _ _ _ (cell-missed s _ _ _ _ (sym (cell-is (c .before) s g h) ∙ w .1 .given .1))
-      ∙ onC s g _ _ _ _ 0 0 0))
+      ∙ misses s g _ _ _ _ _ _ (cell-missed s _ _ _ _ (sym (cell-is (c .before) s g h) ∙ w .1 .given .1))
+      ∙ onC s g _ _ _ _))
       (c .match .came),
 )
 
@@ -205,22 +223,22 @@ next-column-requires c κs = let p = c .before .before .before .before .before .
     (c .before .before .xs-test .taken, (p .0, in-play (p .0) (p .1 .0) _ _ _ (p .1 .1) _ _ _ _ (c .before .before .before .before .before .before .before .search .inv .0) (omega (arith, c .before .before .before .before .before .before .search-test .taken)) (omega arith) (omega arith)))
 
 xs-less : tie.Need-xs-less Inv-ls μ-ls Inv-cs μ-cs Inv-xs μ-xs Inv-ys μ-ys Inv-search μ-search
-xs-less c = let p = c .before .before .before .before .before .before .before .before .before .before .pre .0 in
-    let g = next-x-grows (p .0) (p .1 .0) oneResolution (inRow (c .before .before .before .before .before .before .before .before .search .r) (c .before .before .before .before .before .before .ys .y)) (c .before .before .before .before .xs .x) in
-    omega (arith, column-here c (p .0) (p .1 .0) (p .1 .1), g, c .before .before .before .xs-test .taken)
+xs-less c = omega (arith, column-up c, c .before .before .before .xs-test .taken)
 
 xs-again : tie.Need-xs-again Inv-ls μ-ls Inv-cs μ-cs Inv-xs μ-xs Inv-ys μ-ys Inv-search μ-search
-xs-again c = let p = c .before .before .before .before .before .before .before .before .before .before .pre .0 in
-    let grows = next-x-grows (p .0) (p .1 .0) oneResolution (inRow (c .before .before .before .before .before .before .before .before .search .r) (c .before .before .before .before .before .before .ys .y)) (c .before .before .before .before .xs .x) in (
-      omega (arith, column-here c (p .0) (p .1 .0) (p .1 .1), grows, c .before .before .before .before .xs .inv .0),
-      omega arith,
-      onward _ _ _ _ _ refl (c .before .before .cs .inv .1)
-          (λ s g h.
-          let q = h .ranged in
-          outC s g _ _ _ _ _ (rw (q .compno1) at (c .before .cs-test .left))
-          ∙ onX s g _ _ _ 0 _ 0 0 _ (rw (q .resno0) at (c .before .before .before .before .before .before .before .before .search .inv .0)) (rw (q .resno1) at (c .before .before .before .before .before .before .before .search-test .taken)) (rw (q .ty0) at (c .before .before .before .before .before .before .ys .inv .0))
-          (rw (q .ty1) at (c .before .before .before .before .before .ys-test .taken)) (rw (q .tx0) at (c .before .before .before .before .xs .inv .0)) (rw (q .tx1) at (c .before .before .before .xs-test .taken)) (column-here c s g h) (q .compno0)),
-    )
+xs-again c = (
+  omega (arith, column-up c, c .before .before .before .before .xs .inv .0),
+  omega arith,
+  onward _ _ _ _ _ refl (c .before .before .cs .inv .1)
+      (λ s g h.
+      let q = h .ranged in
+      outC s g _ _ _ _ _ (rw (q .compno1) at (c .before .cs-test .left))
+      ∙ onX s g _ _ _ _ _
+      (rw (q .resno0) at (c .before .before .before .before .before .before .before .before .search .inv .0)) (rw (q .resno1) at (c .before .before .before .before .before .before .before .search-test .taken))
+      (rw (q .ty0) at (c .before .before .before .before .before .before .ys .inv .0)) (rw (q .ty1) at (c .before .before .before .before .before .ys-test .taken))
+      (rw (q .tx0) at (c .before .before .before .before .xs .inv .0)) (rw (q .tx1) at (c .before .before .before .xs-test .taken))
+      (column-here c s g h .0) (q .compno0)),
+)
 
 add-next-row :
     tie.Need-add-next-row Inv-ls μ-ls Inv-cs μ-cs Inv-xs μ-xs Inv-ys μ-ys Inv-search μ-search
@@ -232,23 +250,22 @@ next-row-requires c κs = let p = c .before .before .before .before .before .bef
     (c .before .before .ys-test .taken, (p .0, in-play (p .0) (p .1 .0) _ _ _ (p .1 .1) _ _ _ _ (c .before .before .before .before .before .search .inv .0) (omega (arith, c .before .before .before .before .search-test .taken)) (omega arith) (omega arith)))
 
 ys-less : tie.Need-ys-less Inv-ls μ-ls Inv-cs μ-cs Inv-xs μ-xs Inv-ys μ-ys Inv-search μ-search
-ys-less c = let p = c .before .before .before .before .before .before .before .before .pre .0 in
-    let g = next-y-grows (p .0) (p .1 .0) oneResolution (atRes (c .before .before .before .before .before .before .search .r)) (c .before .before .before .before .ys .y) in
-    omega (arith, row-here c (p .0) (p .1 .0) (p .1 .1), g, c .before .before .before .ys-test .taken)
+ys-less c = omega (arith, row-up c, c .before .before .before .ys-test .taken)
 
 ys-again : tie.Need-ys-again Inv-ls μ-ls Inv-cs μ-cs Inv-xs μ-xs Inv-ys μ-ys Inv-search μ-search
-ys-again c = let p = c .before .before .before .before .before .before .before .before .pre .0 in
-    let grows = next-y-grows (p .0) (p .1 .0) oneResolution (atRes (c .before .before .before .before .before .before .search .r)) (c .before .before .before .before .ys .y) in (
-      omega (arith, row-here c (p .0) (p .1 .0) (p .1 .1), grows, c .before .before .before .before .ys .inv .0),
-      omega arith,
-      omega arith,
-      onward _ _ _ _ _ refl (c .before .before .xs .inv .2)
-          (λ s g h.
-          let q = h .ranged in
-          outX s g _ _ _ _ _ (rw (q .tx1) at (c .before .xs-test .left))
-          ∙ onY s g _ _ 0 0 _ _ 0 _ (rw (q .resno0) at (c .before .before .before .before .before .before .search .inv .0)) (rw (q .resno1) at (c .before .before .before .before .before .search-test .taken)) (rw (q .ty0) at (c .before .before .before .before .ys .inv .0))
-          (rw (q .ty1) at (c .before .before .before .ys-test .taken)) (row-here c s g h) (q .compno0) (q .tx0)),
-    )
+ys-again c = (
+  omega (arith, row-up c, c .before .before .before .before .ys .inv .0),
+  omega arith,
+  omega arith,
+  onward _ _ _ _ _ refl (c .before .before .xs .inv .2)
+      (λ s g h.
+      let q = h .ranged in
+      outX s g _ _ _ _ _ (rw (q .tx1) at (c .before .xs-test .left))
+      ∙ onY s g _ _ _ _ _
+      (rw (q .resno0) at (c .before .before .before .before .before .before .search .inv .0)) (rw (q .resno1) at (c .before .before .before .before .before .search-test .taken))
+      (rw (q .ty0) at (c .before .before .before .before .ys .inv .0)) (rw (q .ty1) at (c .before .before .before .ys-test .taken))
+      (row-here c s g h .0) (q .tx0) (q .compno0)),
+)
 
 add-r : tie.Need-add-r Inv-ls μ-ls Inv-cs μ-cs Inv-xs μ-xs Inv-ys μ-ys Inv-search μ-search
 add-r c = search needs
@@ -267,24 +284,26 @@ search-again c = (
   onward _ _ _ _ _ refl (c .before .ys .inv .3)
       (λ s g h.
       let q = h .ranged in
-      outY s g _ _ _ _ _ (rw (q .ty1) at (c .ys-test .left)) ∙ onR s g _ 0 0 0 _ _ _ (q .compno0) (q .tx0) (q .ty0)),
+      outY s g _ _ _ _ _ (rw (q .ty1) at (c .ys-test .left)) ∙ onR s g _ _ _ _ (q .ty0) (q .tx0) (q .compno0)),
 )
 
 -- where the loops are left: by the outermost test, or by the break
 left :
     (c : tie.Left-search Inv-ls μ-ls Inv-cs μ-cs Inv-xs μ-xs Inv-ys μ-ys Inv-search μ-search)
     → (let a = c .before .before .before .args in
-    Left (λ s g. Ready s g (a .prep .now) (a .w) (a .marks .now)) (a .marks .now) (entry (a .r-from) (a .y-from) (a .x-from) (a .c-from) (a .l-from)) (c .search-test .found) (c .search-test .place))
+    Left (λ s g. Ready s g (a .prep .now) (a .w) (a .marks .now)) (a .marks .now)
+    (entry (a .r-from) (a .y-from) (a .x-from) (a .c-from) (a .l-from)) (c .search-test .found) (c .search-test .place))
 left c =
     ⊎-elim
     (λ w. left-out _ _ _ _ _ _ (w .4) (onward _ _ _ _ _ refl (c .before .search .inv .4) (λ s g h. outR s g _ _ _ _ _ (rw (h .ranged .resno1) at (w .0 .left)))))
     (λ w.
-    let d : tie.In-ls Inv-ls μ-ls Inv-cs μ-cs Inv-xs μ-xs Inv-ys μ-ys Inv-search μ-search = record { before = record { before = record { before = record { before = record { before = record { before = record { before = record { before = record { before = record { before = record { before = record { before = record { before = c .before; search-test = w .0 }; ys = w .1 }; ys-test = w .2 }; xs = w .3 }; xs-test = w .4 }; cs = w .5 }; cs-test = w .6 }; cell-at = w .7 }; match = w .8 }; k = w .9 }; known-told = w .10 }; ls = w .11 }; ls-test = w .12 } in
+    let d : tie.In-ls Inv-ls μ-ls Inv-cs μ-cs Inv-xs μ-xs Inv-ys μ-ys Inv-search μ-search =
+    record { before = record { before = record { before = record { before = record { before = record { before = record { before = record { before = record { before = record { before = record { before = record { before = record { before = c .before; search-test = w .0 }; ys = w .1 }; ys-test = w .2 }; xs = w .3 }; xs-test = w .4 }; cs = w .5 }; cs-test = w .6 }; cell-at = w .7 }; match = w .8 }; k = w .9 }; known-told = w .10 }; ls = w .11 }; ls-test = w .12 } in
     left-found _ _ _ _ _ _ (w .19) (w .20)
     (λ s g h.
     let m = met-here d s g h in
     w .11 .inv .same s g h
-    ∙ foundL s g _ _ _ _ _ _ _ (rw (h .ranged .layno1) at (w .12 .taken))
+    ∙ foundL s g _ _ _ _ _ _ _ _ (rw (h .ranged .layno1) at (w .12 .taken))
     (mark-read s g _ _ _ h _ _ _ _ _ _ (stands (d .before .before .before .before .before .before)) (w .12 .taken) (m .0) (m .1) _ _ _ (w .13 .ensures) (w .14 .ensures) (w .15 .taken))))
     (c .search-test .came)
 

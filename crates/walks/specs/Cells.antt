@@ -3,23 +3,19 @@ use Prim.Native.Nat.{ℕ, _+_, _-_, _*_, _/_, _%_, _≤_, _<_}
 use mathlib.Core.Path.{_≡_, refl, sym, ap, _∙_}
 use mathlib.Core.Bool.{Bool, true, false, not, _&&_, _||_}
 use mathlib.Core.List.{List}
-use native.Mathlib.Nat.{mul-comm}
 use native.Mathlib.Omega.{arith}
-use lib.Arith.{digits-lt}
 use lib.Dec.{ltb, eqb}
 use borrow.Author.Tests.{ltb-true, lt-ltb, ne-eqb}
 use Rattle.laws.specs.Cases.{split}
 use Rattle.geometry.specs.Precinct.{pick}
 use Rattle.geometry.specs.Line.{Line, step, first, whole, hitAt, columnOf}
 use Rattle.geometry.specs.Hits.{factors, hit-quotient, posStep}
-use Rattle.packets.specs.Tile.{Sheet, lineX, lineY, resOf, width, height, precincts}
-use Rattle.packets.specs.Grid.{stepX, stepY}
+use Rattle.packets.specs.Tile.{Sheet, lineX, lineY, width, height, precincts}
 use Rattle.packets.specs.Good.{Good}
-use Rattle.packets.specs.Met.{precincts-of, precincts-in, MetAt, cell, met-small}
+use Rattle.packets.specs.Met.{precincts-of, precincts-in, MetAt, met-small}
 use Rattle.packets.specs.Positions.{met, numberAt}
 use Rattle.packets.specs.declared.cursor.Position.{Position}
-use Rattle.walks.specs.Prepared.{field, widthIn, insideStart, hitBy, Lines, Entry, InPlay, AtPoint, pointOf, cellOf}
-use Rattle.walks.specs.declared.cell.Cell.{Cell}
+use Rattle.walks.specs.Prepared.{field, widthIn, insideStart, hitBy, Entry, AtPoint, pointOf, cellOf}
 use Rattle.walks.specs.declared.cell.Cell.the-variants.{At, Nothing}
 
 -- THE HIT LAW: the point test by the step and the start inside a precinct

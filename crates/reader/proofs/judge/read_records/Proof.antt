@@ -1,0 +1,81 @@
+-- `read_records`: what is left to read from the record at hand on decides, by what is due there. Assumes nothing.
+use Prim.Native.Nat.{_-_}
+use mathlib.Core.Path.{_≡_, refl, sym, _∙_}
+use native.Mathlib.Omega.{arith}
+use denote.Ref.{now}
+use borrow.Author.Tests.{ne-eqb}
+use Rattle.packets.specs.Sheet.{due, readFrom}
+use Rattle.reader.specs.Reader.{dueOf}
+use Rattle.reader.proofs.Records.{read-more, read-stop, read-whole, read-missing}
+use Rattle.reader.proofs.judge.read_records.Statement.{statement}
+use Rattle.reader.proofs.judge.read_records.Tie as tie
+
+abbrev Inv-loop : tie.InvT-loop
+Inv-loop s n components progressions d₀ i₀ d i =
+    readFrom s progressions (n - 1) 1 (due 0 components progressions) ≡ readFrom s progressions (n - i) i (dueOf d)
+
+abbrev μ-loop : tie.MeasureT-loop
+μ-loop s n components progressions d₀ i₀ d i = n - i
+
+loop-holds : tie.Need-loop-holds Inv-loop μ-loop
+loop-holds c = refl
+
+record-verdict-requires : tie.Need-record-verdict-requires Inv-loop μ-loop
+record-verdict-requires c κs = omega arith
+
+returns : tie.Need-returns Inv-loop μ-loop
+returns c =
+    let l = c .before .before .before in
+    let a = l .before .before .args in
+    let v = c .before .record-verdict in
+    v .ensures
+    ∙ sym (l .loop .inv ∙ read-stop (now (a .s)) (a .progressions) (a .n) (l .loop .i) (dueOf (l .loop .d)) (c .before .before .loop-test .taken) (rw (← (v .ensures)) (ne-eqb _ _ (c .if1 .taken))))
+
+due-behind-requires : tie.Need-due-behind-requires Inv-loop μ-loop
+due-behind-requires c κs = omega arith
+
+add-i : tie.Need-add-i Inv-loop μ-loop
+add-i c = omega arith
+
+loop-less : tie.Need-loop-less Inv-loop μ-loop
+loop-less c = omega arith
+
+loop-again : tie.Need-loop-again Inv-loop μ-loop
+loop-again c =
+    let l = c .before .before .before .before in
+    let a = l .before .before .args in
+    let v = c .before .before .record-verdict in
+    l .loop .inv
+    ∙ rw (c .due-behind .ensures) (read-more (now (a .s)) (a .progressions) (a .n) (l .loop .i) (dueOf (l .loop .d)) (c .before .before .before .loop-test .taken) (sym (v .ensures) ∙ c .before .if1 .left))
+
+complete-requires : tie.Need-complete-requires Inv-loop μ-loop
+complete-requires c κs = tt
+
+returns-2 : tie.Need-returns-2 Inv-loop μ-loop
+returns-2 c =
+    let l = c .before .before .before in
+    let a = l .before .before .args in
+    sym (l .loop .inv ∙ read-whole (now (a .s)) (a .progressions) (a .n) (l .loop .i) (dueOf (l .loop .d)) (c .before .before .loop-test .left) (sym (c .before .complete .ensures) ∙ c .if2 .taken))
+
+returns-3 : tie.Need-returns-3 Inv-loop μ-loop
+returns-3 c =
+    let l = c .before .before .before in
+    let a = l .before .before .args in
+    sym (l .loop .inv ∙ read-missing (now (a .s)) (a .progressions) (a .n) (l .loop .i) (dueOf (l .loop .d)) (c .before .before .loop-test .left) (sym (c .before .complete .ensures) ∙ c .if2 .left))
+
+pub read-records-spec : {M : Type 1} → statement M
+read-records-spec =
+    tie.close
+    (tie.spec
+    Inv-loop
+    μ-loop
+    loop-holds
+    record-verdict-requires
+    returns
+    due-behind-requires
+    add-i
+    loop-less
+    loop-again
+    complete-requires
+    returns-2
+    returns-3)

@@ -1,0 +1,12 @@
+pub mod Answers
+pub mod Ranges
+pub mod Components
+pub mod Orders
+pub mod Products
+pub mod Over
+pub mod Steps
+pub mod Agreed
+pub mod Bases
+pub mod Seen
+pub mod Found
+pub mod Determined

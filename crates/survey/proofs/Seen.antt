@@ -1,0 +1,146 @@
+-- What the survey holds after c components, and its next turn: one component more, or nothing. Assumes nothing.
+use mathlib.Core.Path.{_≡_, refl, sym, ap, _∙_}
+use mathlib.Core.Bool.{Bool, true, false, _&&_, false≢true}
+use mathlib.Core.List.{List}
+use mathlib.Core.Logic.{⊎-elim}
+use Prim.Native.Nat.{ℕ, _+_, _*_, _≤_, _<_, max}
+use native.Mathlib.Omega.{arith}
+use lib.ListN.{length, getD, set, replicate, length-set}
+use lib.Seq.{getD-set-same, getD-set-other}
+use borrow.Author.Tests.{lt-leb}
+use Rattle.laws.specs.Cases.{le-or-lt, and-false}
+use Rattle.laws.specs.Below.{allBelow, all-none, all-more, all-fails, maxBelow, max-none, max-more}
+use Rattle.packets.specs.Tile.{Sheet, dxOf, dyOf, resOf}
+use Rattle.packets.specs.Grid.{stepX, stepY}
+use Rattle.packets.specs.declared.state.State.{State}
+use Rattle.survey.specs.Survey.{noSurvey, surveyOf}
+use Rattle.survey.specs.Passing.{startSums, noSums, joinedSums, pickSums, componentSums, placesOf}
+use Rattle.survey.specs.declared.Source.{Source}
+use Rattle.survey.specs.declared.sums.Sums.{Sums}
+use Rattle.survey.specs.declared.places.Places.{Places}
+use Rattle.survey.proofs.Ranges.{in-range}
+use Rattle.survey.proofs.Bases.{baseIn, placeIn, Small, base-none, base-more, apart-small, places-are}
+use Rattle.survey.proofs.Over.{sheetOver, rangedAt, fineAt, goodOver, foundOver, survey-over, tileOf, leastIn, partSums, sumsTo, sums-none, sums-more, component-is}
+
+-- the sheet whose exponents stand at these places
+abbrev pub sheetBy : List ℕ → Places → State → Sheet
+sheetBy e p st = sheetOver e (placeIn p st) st
+
+-- a list that holds f 0, f 1, .. f (c - 1)
+abbrev Holds : (ℕ → ℕ) → ℕ → List ℕ → Type 0
+Holds f c l = (k : ℕ) → k < c → getD l k 0 ≡ f k
+
+holds-more : (f : ℕ → ℕ) (c : ℕ) (l : List ℕ) (v : ℕ) → c < length l → Holds f c l → v ≡ f c → Holds f (c + 1) (set l c v)
+holds-more f c l v long h e k b =
+    ⊎-elim
+    (λ (d : c ≤ k). let same : k ≡ c = omega arith in rw same (getD-set-same l c v 0 long ∙ e))
+    (λ (d : k < c). let other : k ≡ c → ⊥ = λ z. differs k c d z in getD-set-other l c k v 0 other ∙ h k d)
+    (le-or-lt c k)
+  where
+    differs : (k c : ℕ) → k < c → k ≡ c → ⊥
+    differs k c d z = omega arith
+
+-- after c components the next begins at `place`, and everything before was good
+pub record Seen (e : List ℕ) (p : Places) (check : Bool) (st : State) (place : ℕ) (all : Sums) (deep : ℕ) (xs ys : List ℕ) (c : ℕ) : Type 0 where
+  pub at : place ≡ baseIn p st c
+  pub near : place ≤ 68 + 1088 * c
+  pub ranged : allBelow (rangedAt st) c ≡ true
+  pub fine : allBelow (fineAt e (placeIn p st) st check) c ≡ true
+  pub sums : all ≡ sumsTo (sheetBy e p st) c
+  pub deepest : deep ≡ maxBelow (resOf st) c
+  pub shallow : deep ≤ 33
+  pub long-x : length xs ≡ 16
+  pub long-y : length ys ≡ 16
+  pub least-x : Holds (leastIn (stepX (sheetBy e p st)) st) c xs
+  pub least-y : Holds (leastIn (stepY (sheetBy e p st)) st) c ys
+
+pick-both : (a b : Bool) (x : Sums) → pickSums a (pickSums b x noSums) noSums .good ≡ true → (a ≡ true) × (b ≡ true)
+pick-both true true x h = (refl, refl)
+pick-both true false x h = absurd (false≢true h)
+pick-both false b x h = absurd (false≢true h)
+
+pick-none : (a b : Bool) (x : Sums) → x .good ≡ true → pickSums a (pickSums b x noSums) noSums .good ≡ false → (a && b) ≡ false
+pick-none true true x g h = absurd (false≢true (sym h ∙ g))
+pick-none true false x g h = refl
+pick-none false b x g h = refl
+
+pub seen-none : (e : List ℕ) (p : Places) (check : Bool) (st : State) → Small p → Seen e p check st (p .first) startSums 0 (replicate 16 0) (replicate 16 0) 0
+seen-none e p check st small =
+    let f = small .first in
+    record {
+      at = base-none p st;
+      near = omega arith;
+      ranged = all-none (rangedAt st);
+      fine = all-none (fineAt e (placeIn p st) st check);
+      sums = sym (sums-none (sheetBy e p st));
+      deepest = sym (max-none (resOf st));
+      shallow = omega arith;
+      long-x = refl;
+      long-y = refl;
+      least-x = λ k h. omega arith;
+      least-y = λ k h. omega arith;
+    }
+
+module _ {e : List ℕ} {p : Places} {check : Bool} {st : State} {place : ℕ} {all : Sums} {deep : ℕ} {xs ys : List ℕ} {c : ℕ}
+    (s : Seen e p check st place all deep xs ys c) {one : Sums}
+    (is : one ≡ componentSums e (λ i. place + p .apart * i) check (tileOf st) (dxOf st c) (dyOf st c) (resOf st c)) where
+  -- the component's sums, by what it is
+  part : one ≡ pickSums (rangedAt st c) (pickSums (fineAt e (placeIn p st) st check c) (partSums (sheetBy e p st) c) noSums) noSums
+  part = rw (s .at) at is ∙ component-is e (placeIn p st) check st c
+
+  both : one .good ≡ true → (rangedAt st c ≡ true) × (fineAt e (placeIn p st) st check c ≡ true)
+  both g = pick-both (rangedAt st c) (fineAt e (placeIn p st) st check c) (partSums (sheetBy e p st) c) (sym (ap (λ (a : Sums). a .good) part) ∙ g)
+
+  pub seen-more : Small p → c < 16 → one .good ≡ true
+      → Seen e p check st (place + (p .apart * resOf st c + p .between)) (joinedSums all one) (max deep (resOf st c)) (set xs c (one .«x_least»)) (set ys c (one .«y_least»)) (c + 1)
+  seen-more small h g =
+      let w = both g in
+      let r = in-range (dxOf st c) (dyOf st c) (resOf st c) (w .0) in
+      let is-part : one ≡ partSums (sheetBy e p st) c = rw (w .0, w .1) at part in
+      let a = apart-small p (resOf st c) small (r .n-high) in
+      let b = small .between in
+      let near = s .near in
+      let high = r .n-high in
+      let shallow = s .shallow in
+      let x = s .long-x in
+      let y = s .long-y in
+      record {
+        at = rw (s .at) (base-more p st c);
+        near = omega arith;
+        ranged = all-more (rangedAt st) c (s .ranged) (w .0);
+        fine = all-more (fineAt e (placeIn p st) st check) c (s .fine) (w .1);
+        sums = rw (s .sums, is-part) (sums-more (sheetBy e p st) c);
+        deepest = rw (max-more (resOf st) c, s .deepest);
+        shallow = omega arith;
+        long-x = length-set xs c (one .«x_least») ∙ x;
+        long-y = length-set ys c (one .«y_least») ∙ y;
+        least-x = holds-more (leastIn (stepX (sheetBy e p st)) st) c xs (one .«x_least») (omega arith) (s .least-x) (ap (λ (a : Sums). a .«x_least») is-part);
+        least-y = holds-more (leastIn (stepY (sheetBy e p st)) st) c ys (one .«y_least») (omega arith) (s .least-y) (ap (λ (a : Sums). a .«y_least») is-part);
+      }
+
+  -- the next place is small
+  pub room : Small p → c < 16 → one .good ≡ true → place + (p .apart * resOf st c + p .between) ≤ 17476
+  room small h g = omega (arith, seen-more small h g .near)
+
+  -- a component that is not good ends the survey
+  pub seen-bad : c < st .components → one .good ≡ false → foundOver e (placeIn p st) check st ≡ noSurvey
+  unfolding foundOver goodOver
+  seen-bad h g =
+      let bad = pick-none (rangedAt st c) (fineAt e (placeIn p st) st check c) (partSums (sheetBy e p st) c) refl (sym (ap (λ (a : Sums). a .good) part) ∙ g) in
+      rw (none (rangedAt st) (fineAt e (placeIn p st) st check) c h bad, and-false)
+    where
+      none : (f g : ℕ → Bool) (c : ℕ) → c < st .components → (f c && g c) ≡ false → (allBelow f (st .components) && allBelow g (st .components)) ≡ false
+      none f g c h bad = by (f c) refl bad
+        where
+          by : (t : Bool) → f c ≡ t → (t && g c) ≡ false → (allBelow f (st .components) && allBelow g (st .components)) ≡ false
+          by true i bad = rw (all-fails g (st .components) c h bad) (and-false (allBelow f (st .components)))
+          by false i bad = rw (all-fails f (st .components) c h i)
+
+-- the survey of a source is that over its places
+pub survey-in : (e : List ℕ) (at : Source) (check : Bool) (st : State) (p : Places) → p ≡ placesOf at → surveyOf e at check st ≡ foundOver e (placeIn p st) check st
+survey-in e at check st p h = rw h (survey-over e at check st (placeIn (placesOf at) st) (places-are at st))
+
+-- too many components
+pub seen-many : (e : List ℕ) (q : ℕ → ℕ → ℕ) (check : Bool) (st : State) → 16 < st .components → foundOver e q check st ≡ noSurvey
+unfolding foundOver goodOver
+seen-many e q check st h = rw (lt-leb _ _ h)

@@ -1,0 +1,3 @@
+pub mod Survey
+pub mod Passing
+pub mod Sources

@@ -1,0 +1,79 @@
+// Whether the grid is agreed (01, 'Agreed grid'): what the orders of the progressions want of the steps, and whether the steps have it.
+use geometry::math;
+use packets::state::Order;
+use packets::state::State;
+ghost use mathlib.Core.Path.{_≡_};
+ghost use Prim.Native.Nat.{_≤_, _<_};
+ghost use Rattle.packets.specs.Orders.{orderOf};
+ghost use Rattle.survey.specs.Passing.{wantOf, wantedOf, multiples, agreedOf};
+
+// What an order wants: 1 that every step fits 32 bits, 2 that the smallest also divides every other.
+fn want(prg: i32) -> u32
+    ensures { λ r. ⌜ r ≡ wantOf (orderOf prg) ⌝ }
+{
+    match prg {
+        Order::RPCL => 2,
+        Order::PCRL => 2,
+        Order::CPRL => 1,
+        _ => 0,
+    }
+}
+
+// The most that a progression of st wants.
+pub(crate) fn wanted(st: State) -> u32
+    ensures { λ r. ⌜ r ≡ wantedOf st ⌝ }
+{
+    let n = math::uint_min(st.progressions, State::MAX_PROGRESSIONS) as usize;
+    let mut most: u32 = 0;
+    let mut k: usize = 0;
+    while k < n {
+        let p = st.changes[k];
+        most = math::uint_max(most, want(p.prg));
+        k += 1;
+    }
+    most
+}
+
+// The first n numbers are multiples of m.
+fn all_multiples(numbers: &[u32; 16], n: usize, m: u32) -> bool
+    requires { ⌜ (n ≤ 16) × (0 < m) ⌝ }
+    ensures { λ r. ⌜ r ≡ multiples (now (numbers .entry)) n m ⌝ }
+{
+    let mut c: usize = 0;
+    while c < n {
+        if numbers[c] % m == 0 {
+            c += 1;
+        } else {
+            return false;
+        }
+    }
+    true
+}
+
+// The steps have what is wanted of them: their largest, and on each axis the smallest of each of n components and of all. Within a component every
+// step is its own times a power of two, so that the smallest divides the others: one number a component is enough.
+pub(crate) fn agreed(
+    wanted: u32,
+    largest: u64,
+    xs: &[u32; 16],
+    x: u32,
+    ys: &[u32; 16],
+    y: u32,
+    n: usize,
+) -> bool
+    requires { ⌜ (n ≤ 16) × (0 < x) × (0 < y) ⌝ }
+    ensures { λ r. ⌜ r ≡ agreedOf wanted largest (now (xs .entry)) x (now (ys .entry)) y n ⌝ }
+{
+    if wanted == 0 {
+        return true;
+    }
+    if 0xffff_ffff < largest {
+        return false;
+    }
+    if wanted == 1 {
+        return true;
+    }
+    let along = all_multiples(xs, n, x);
+    let down = all_multiples(ys, n, y);
+    along & down
+}

@@ -1,0 +1,133 @@
+// One survey of every resolution of every component, for setup and for soundness alike: the numbers that setup reports, whether the grid is agreed,
+// and the marks needed. The precinct exponents are read where they stand: in a sheet's records or in a table's entries.
+mod axis;
+mod component;
+mod grid;
+mod marks;
+mod places;
+mod sums;
+
+use crate::marks::Marks;
+use crate::places::Places;
+use crate::sums::Sums;
+use geometry::math;
+use geometry::tile::Area;
+use packets::state::State;
+ghost use mathlib.Core.Path.{_≡_};
+ghost use Prim.Native.Nat.{_≤_, _<_};
+ghost use Rattle.survey.specs.Survey.{noSurvey, surveyOf};
+ghost use Rattle.survey.specs.Passing.{findingsOf};
+
+// Where precinct exponents stand: in the records of a sheet, or in the entries of a table.
+pub enum Source {
+    Records,
+    Entries,
+}
+
+pub struct Findings {
+    // every range holds, and the sizes where they were to be checked; else all numbers are 0
+    pub good: bool,
+    // the grid is agreed for every progression
+    pub grid: bool,
+    // at most 65,536 marks are needed; else `needed` and `max_prec` are 0
+    pub few: bool,
+    pub needed: u32,
+    pub max_prec: u64,
+    pub max_res: u32,
+    pub dx_min: u32,
+    pub dy_min: u32,
+}
+
+impl Findings {
+    // Nothing is known of what is out of range.
+    fn none() -> Self
+        ensures { λ r. ⌜ r ≡ noSurvey ⌝ }
+    {
+        Findings {
+            good: false,
+            grid: false,
+            few: false,
+            needed: 0,
+            max_prec: 0,
+            max_res: 0,
+            dx_min: 0,
+            dy_min: 0,
+        }
+    }
+
+    // What the sums of all components say, with the smallest steps of each.
+    fn of(
+        wanted: u32,
+        layers: u32,
+        components: u32,
+        res: u32,
+        all: Sums,
+        xs: &[u32; 16],
+        ys: &[u32; 16],
+    ) -> Self
+        requires { ⌜ (components ≤ 16) × (res ≤ 33) × (0 < all .«x_least») × (0 < all .«y_least») ⌝ }
+        ensures { λ r. ⌜ r ≡ findingsOf wanted layers components res all (now (xs .entry)) (now (ys .entry)) ⌝ }
+    {
+        let marks = Marks::of(layers, res, components, all.most);
+        Findings {
+            good: true,
+            grid: grid::agreed(
+                wanted,
+                all.largest,
+                xs,
+                all.x_least,
+                ys,
+                all.y_least,
+                components as usize,
+            ),
+            few: marks.few,
+            needed: marks.needed,
+            max_prec: marks.max_prec,
+            max_res: res,
+            dx_min: math::uint_min(0x7fff_ffff, all.x_least),
+            dy_min: math::uint_min(0x7fff_ffff, all.y_least),
+        }
+    }
+}
+
+// Surveys the components of st with the exponents that stand in e; with check, also that the sizes behind them are right.
+pub fn survey(e: &[u8], at: Source, check: bool, st: State) -> Findings
+    ensures { λ r. ⌜ r ≡ surveyOf (now (e .entry)) at check st ⌝ }
+{
+    if State::MAX_COMPONENTS < st.components {
+        return Findings::none();
+    }
+    let n = st.components as usize;
+    let tile = Area {
+        x0: st.tx0,
+        y0: st.ty0,
+        x1: st.tx1,
+        y1: st.ty1,
+    };
+    let places = Places::of(at);
+    let mut place = places.first;
+    let mut all = Sums::start();
+    let mut max_res: u32 = 0;
+    // the smallest steps of each component
+    let mut xs = [0u32; 16];
+    let mut ys = [0u32; 16];
+    let mut c: usize = 0;
+    while c < n {
+        let dx = st.dx[c];
+        let dy = st.dy[c];
+        let resolutions = st.resolutions[c];
+        let one = component::component(e, place, places.apart, check, tile, dx, dy, resolutions);
+        if one.good {
+            all = all.joined(one);
+            max_res = math::uint_max(max_res, resolutions);
+            xs[c] = one.x_least;
+            ys[c] = one.y_least;
+            place += places.apart * (resolutions as usize) + places.between;
+            c += 1;
+        } else {
+            return Findings::none();
+        }
+    }
+    let wanted = grid::wanted(st);
+    Findings::of(wanted, st.layers, st.components, max_res, all, &xs, &ys)
+}

@@ -1,0 +1,112 @@
+-- What LRCP and RLCP have in common: inside a layer and a resolution both go over the components and the precincts of each, by their prepared number.
+-- `o` is what the two outer loops have left. Assumes nothing.
+use mathlib.Core.Path.{_≡_, refl, _∙_}
+use mathlib.Core.Bool.{Bool, true, false}
+use mathlib.Core.List.{List, [], _∷_, _++_}
+use Prim.Native.Nat.{ℕ, _+_, _≤_, _<_}
+use native.Mathlib.Omega.{arith}
+use lib.ListN.{length, getD}
+use lib.Dec.{eqb}
+use Rattle.laws.specs.Axis.{up-grows}
+use Rattle.laws.specs.Nest.{Loop, resumed, later, turn-in, turn-out, turn-next}
+use Rattle.laws.specs.Runs.{Packet, seek}
+use Rattle.packets.specs.Tile.{Sheet, precincts, indexOf}
+use Rattle.packets.specs.Orders.{Range}
+use Rattle.packets.specs.Positions.{components, everyPrecinct}
+use Rattle.packets.specs.Met.{precincts-in}
+use Rattle.packets.specs.Inside.{Inside}
+use Rattle.packets.specs.declared.cursor.Position.{Position}
+use Rattle.walks.specs.Prepared.{field}
+use Rattle.walks.specs.Walk.{indexBy, Counted}
+use Rattle.walks.specs.Going.{Rest}
+use Rattle.walks.specs.Innermost.{last-out, last-found, last-passed}
+use Rattle.walks.specs.Marks.{fits-mark, has-mark, reads-mark}
+use Rattle.walks.specs.declared.walk.Walk.{Walk}
+
+-- the loops inside the two outer ones
+abbrev pub inner : Sheet → Range → List (Loop Position)
+inner s g = components g ∷ everyPrecinct s ∷ []
+
+-- the place of a packet: these orders leave x and y at 0
+abbrev pub placeOf : ℕ → ℕ → ℕ → ℕ → Position
+placeOf l r c k = record { layno = l; resno = r; compno = c; precno = k; x = 0; y = 0 }
+
+-- what is left behind a turn of the components
+unfoldable pub afterC : Rest → ℕ → ℕ → ℕ → Rest
+afterC o l r c s g = later (components g) (everyPrecinct s ∷ []) (placeOf l r 0 0) c ++ o s g
+
+-- what is left at the components, and at the precincts of component c
+unfoldable pub leftC : Rest → ℕ → ℕ → ℕ → ℕ → Rest
+leftC o l r c k s g = resumed (inner s g) ((λ p. c) ∷ (λ p. k) ∷ []) (placeOf l r 0 0) ++ o s g
+
+unfoldable pub leftK : Rest → ℕ → ℕ → ℕ → ℕ → Rest
+leftK o l r c k s g = resumed (everyPrecinct s ∷ []) ((λ p. k) ∷ []) (placeOf l r c 0) ++ afterC o l r c s g
+
+module _ (s : Sheet) (g : Range) (o : Rest) (l r c : ℕ) where
+  -- the next component starts with its first precinct
+  pub onC : afterC o l r c s g ≡ leftC o l r (c + 1) 0 s g
+  unfolding afterC leftC
+  onC = turn-next (components g) (everyPrecinct s ∷ []) (λ p. c + 1) ((λ p. 0) ∷ []) (placeOf l r 0 0) (o s g) (λ p. refl, tt) c refl
+
+  module _ (k : ℕ) where
+    pub inC : c < g .compno1 → leftC o l r c k s g ≡ leftK o l r c k s g
+    unfolding leftC leftK afterC
+    inC h = turn-in (components g) (everyPrecinct s ∷ []) (λ p. c) _ (placeOf l r 0 0) (o s g) up-grows h
+
+    pub outC : g .compno1 ≤ c → leftC o l r c k s g ≡ o s g
+    unfolding leftC
+    outC h = turn-out (components g) (everyPrecinct s ∷ []) (λ p. c) _ (placeOf l r 0 0) (o s g) h
+
+    pub outK : precincts s c r ≤ k → leftK o l r c k s g ≡ afterC o l r c s g
+    unfolding leftK
+    outK h = last-out (everyPrecinct s) (placeOf l r c 0) k (afterC o l r c s g) h
+
+    module _ (marks : List ℕ) (h : k < precincts s c r) where
+      pub foundK : eqb (getD marks (indexOf (s .st) (placeOf l r c k)) 0) 0 ≡ true → seek (indexOf (s .st)) marks (leftK o l r c k s g) ≡ Packet (placeOf l r c k)
+      unfolding leftK
+      foundK e = last-found (everyPrecinct s) (placeOf l r c 0) k (afterC o l r c s g) refl h (s .st) marks e
+
+      pub passK : eqb (getD marks (indexOf (s .st) (placeOf l r c k)) 0) 0 ≡ false
+          → seek (indexOf (s .st)) marks (leftK o l r c k s g) ≡ seek (indexOf (s .st)) marks (leftK o l r c (k + 1) s g)
+      unfolding leftK
+      passK e = last-passed (everyPrecinct s) (placeOf l r c 0) k (afterC o l r c s g) refl h (s .st) marks e
+
+-- A WALK THAT IS COUNTED stands at a layer, a resolution and a component inside its ranges
+pub record Stands (w : Walk) (l r c : ℕ) : Type 0 where
+  pub layer : l < w .layno1
+  pub res-from : w .resno0 ≤ r
+  pub res-to : r < w .resno1
+  pub comp-from : w .compno0 ≤ c
+  pub comp-to : c < w .compno1
+
+module _ (s : Sheet) (g : Range) (prep : List ℕ) (w : Walk) (marks : List ℕ) (counted : Counted s g prep w marks) (l r c : ℕ) (t : Stands w l r c) where
+  -- the prepared numbers hold its own
+  pub held : (r < 33) × (c < 16)
+  held =
+      let q = counted .ranged in
+      (omega (arith, counted .resolutions, q .resno1, t .res-to), omega (arith, counted .components, q .compno1, t .comp-to))
+
+  module _ (n : ℕ) (e : n ≡ field prep r c 7) where
+    pub count-is : n ≡ precincts s c r
+    count-is =
+        let q = counted .ranged in
+        e ∙ counted .counts r c (rw (← (q .resno0)) (t .res-from)) (rw (← (q .resno1)) (t .res-to)) (rw (← (q .compno0)) (t .comp-from)) (rw (← (q .compno1)) (t .comp-to))
+
+    -- one of so many precincts: its mark is below the largest number of marks, and below the marks' number; and what reading it says
+    module _ (k : ℕ) (h : k < n) where
+      pub below : k < precincts s c r
+      below = rw (← count-is) h
+
+      inside : Inside s (placeOf l r c k)
+      inside =
+          let q = counted .ranged in
+          record { component = omega (arith, q .components, q .compno1, t .comp-to); resolution = precincts-in s c r (omega (arith, below)); precinct = below }
+
+      pub mark-fits : indexBy w l r c k < 65536
+      mark-fits = fits-mark s g w marks (counted .ranged) (counted .good) (placeOf l r c k) inside (t .layer)
+
+      pub mark-there : indexBy w l r c k < length marks
+      mark-there = has-mark s g w marks (counted .ranged) (counted .good) (placeOf l r c k) inside (t .layer)
+
+      pub mark-read : (i : ℕ) (f t : Bool) → i ≡ indexBy w l r c k → f ≡ eqb (getD marks i 0) 0 → f ≡ t → eqb (getD marks (indexOf (s .st) (placeOf l r c k)) 0) 0 ≡ t
+      mark-read = reads-mark s g w marks (counted .ranged) (counted .good) (placeOf l r c k) inside (t .layer)

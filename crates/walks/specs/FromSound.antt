@@ -1,0 +1,88 @@
+-- A sound state can be prepared, and what is prepared from it serves the walks by points where its steps fit. Assumes nothing.
+use Prim.Native.Nat.{ℕ, _-_, _*_, _≤_, _<_}
+use mathlib.Core.Path.{refl, ap, _∙_}
+use mathlib.Core.List.{List}
+use mathlib.Core.Logic.{⊎-elim}
+use native.Mathlib.Omega.{arith}
+use lib.ListN.{getD}
+use Rattle.laws.specs.Cases.{le-or-lt}
+use Rattle.laws.specs.Below.{sumBelow}
+use Rattle.laws.specs.Bounded.{sum-most}
+use Rattle.words.specs.Words.{wordAt}
+use Rattle.packets.specs.Tile.{resOf, width, height, precincts, entriesBefore, indexOf}
+use Rattle.packets.specs.Table.{sheetAt}
+use Rattle.packets.specs.Good.{Good}
+use Rattle.packets.specs.Met.{precincts-of, precincts-in}
+use Rattle.packets.specs.Inside.{Inside}
+use Rattle.packets.specs.Once.{index-below}
+use Rattle.packets.specs.Meaning.{StepsFit, Sound, sound-means, sound-good}
+use Rattle.packets.specs.declared.state.State.{State}
+use Rattle.packets.specs.declared.cursor.Position.{Position}
+use Rattle.walks.specs.Prepared.{InPlay}
+use Rattle.walks.specs.Prepare.{Filled, Components}
+
+module _ (st : State) (table marks : List ℕ) (w : Sound st table marks) where
+  good : Good (sheetAt st table)
+  good = sound-good st table marks (sound-means st table marks .1 w)
+
+  -- the last precinct of a resolution has a mark, so there are no more than marks
+  few-of : (c r : ℕ) → c < st .components → r < resOf st c → 0 < precincts (sheetAt st table) c r → precincts (sheetAt st table) c r ≤ 65536
+  unfolding indexOf
+  few-of c r h k n =
+      let p : Position = record { layno = 0; resno = r; compno = c; precno = precincts (sheetAt st table) c r - 1; x = 0; y = 0 } in
+      let i : Inside (sheetAt st table) p = record { component = h; resolution = k; precinct = omega arith } in
+      omega (arith, index-below (sheetAt st table) good p i (omega (arith, w .tile .layers .0)), w .few)
+
+  pub few-precincts : (c r : ℕ) → c < st .components → precincts (sheetAt st table) c r ≤ 65536
+  few-precincts c r h =
+      ⊎-elim (λ z. omega arith) (λ z. few-of c r h (precincts-in (sheetAt st table) c r z) z) (le-or-lt (precincts (sheetAt st table) c r) 0)
+
+  -- IT CAN BE PREPARED
+  pub sound-components : Components (sheetAt st table) table (st .components) (st .dx) (st .dy) (st .resolutions) (st .tx0) (st .ty0)
+  unfolding entriesBefore
+  sound-components =
+      record {
+        most = w .tile .components .1;
+        each = λ c h.
+            let k = w .component c h in
+            let e : (r : ℕ) → r < resOf st c → width (sheetAt st table) c r * height (sheetAt st table) c r ≤ 65536
+            = λ r q. rw (precincts-of (sheetAt st table) c r q) at (few-precincts c r h) in
+            let b : sumBelow (λ i. getD (st .resolutions) i 0) c ≤ 33 * c
+            = sum-most (λ i. getD (st .resolutions) i 0) 33 c (λ i q. w .component i (omega arith) .resolutions .1) in
+            record {
+              resolutions = refl;
+              step-x = refl;
+              step-y = refl;
+              left = refl;
+              top = refl;
+              some-x = k .dx .0;
+              small-x = k .dx .1;
+              some-y = k .dy .0;
+              small-y = k .dy .1;
+              levels = k .resolutions .1;
+              components = omega (arith, w .tile .components .1);
+              near = omega (arith, w .tile .components .1);
+              word-x = λ r q. ap (wordAt table) (omega arith);
+              word-y = λ r q. ap (wordAt table) (omega arith);
+              word-wide = λ r q. ap (wordAt table) (omega arith) ∙ w .entry c h r q .wide;
+              word-high = λ r q. ap (wordAt table) (omega arith) ∙ w .entry c h r q .high;
+              exponent-x = λ r q. w .entry c h r q .pdx;
+              exponent-y = λ r q. w .entry c h r q .pdy;
+              few = e;
+            };
+      }
+
+  -- THEN ANY RANGE IS IN PLAY whose steps fit, as an agreed grid says
+  pub sound-play : (prep : List ℕ) (r0 r1 c0 c1 : ℕ) → StepsFit (sheetAt st table) → ((c r : ℕ) → c < st .components → Filled (sheetAt st table) prep r c)
+      → r1 ≤ 33 → c1 ≤ st .components → st .tx1 ≤ 4294967295 → st .ty1 ≤ 4294967295 → InPlay (sheetAt st table) prep r0 r1 c0 c1
+  sound-play prep r0 r1 c0 c1 fits filled a b x y =
+      record {
+        good = good;
+        resolutions = a;
+        components = omega (arith, w .tile .components .1);
+        known = b;
+        entry = λ r c p q i j. filled c r (omega arith) .entry (λ z. fits c (omega arith) r (precincts-in (sheetAt st table) c r z));
+        few = λ r c p q i j. few-precincts c r (omega arith);
+        ends-x = x;
+        ends-y = y;
+      }

@@ -1,0 +1,108 @@
+// PCRL: y, x, component, resolution, layer (T.800 B.12.1.4).
+use crate::cell::Cell;
+use crate::cell::cell_at;
+use crate::next::next_column;
+use crate::next::next_row;
+use crate::walk::Found;
+use crate::walk::Walk;
+use crate::walk::index;
+use crate::walk::is_free;
+use packets::cursor::Position;
+ghost use mathlib.Core.Path.{_≡_};
+ghost use Prim.Native.Nat.{_≤_};
+ghost use Rattle.laws.specs.Runs.{seek};
+ghost use Rattle.packets.specs.Tile.{Sheet, indexOf};
+ghost use Rattle.packets.specs.Orders.{Range};
+ghost use Rattle.walks.specs.Walk.{answerOf, Ready, SomeReady};
+ghost use Rattle.walks.specs.Pcrl.{entry};
+
+// The first free position from (y, x, c, r, l) on.
+pub(crate) fn pcrl(
+    marks: &[u8],
+    prep: &[u32; 4224],
+    w: Walk,
+    y_from: u32,
+    x_from: u32,
+    c_from: u32,
+    r_from: u32,
+    l_from: u32,
+) -> Found
+    requires { ⌜ SomeReady (now prep) w (now marks) ⌝ }
+    requires { ⌜ (w .ty0 ≤ «y_from») × (w .tx0 ≤ «x_from») × (w .compno0 ≤ «c_from») × (w .resno0 ≤ «r_from») ⌝ }
+    ensures { λ o. ⌜ ((s : Sheet) (g : Range) → Ready s g (now (prep .entry)) w (now (marks .entry)) → answerOf o ≡ seek (indexOf (s .st)) (now (marks .entry)) (entry «y_from» «x_from» «c_from» «r_from» «l_from» s g)) ⌝ }
+{
+    let layno1 = w.layno1;
+    let resno0 = w.resno0;
+    let resno1 = w.resno1;
+    let compno0 = w.compno0;
+    let compno1 = w.compno1;
+    let tx0 = w.tx0;
+    let tx1 = w.tx1;
+    let ty1 = w.ty1;
+    let mut x_at = x_from;
+    let mut c_at = c_from;
+    let mut r_at = r_from;
+    let mut l_at = l_from;
+    let mut found = false;
+    let mut place = Position {
+        layno: 0,
+        resno: 0,
+        compno: 0,
+        precno: 0,
+        x: 0,
+        y: 0,
+    };
+    let mut y = y_from;
+    'search: while y < ty1 {
+        let mut x = x_at;
+        'xs: while x < tx1 {
+            let mut c = c_at;
+            'cs: while c < compno1 {
+                let mut r = r_at;
+                'rs: while r < resno1 {
+                    match cell_at(prep, r, c, x, y) {
+                        Cell::At(k) => {
+                            let mut l = l_at;
+                            'ls: while l < layno1 {
+                                let i = index(w, l, r, c, k);
+                                if is_free(marks, i) {
+                                    found = true;
+                                    place = Position {
+                                        layno: l,
+                                        resno: r,
+                                        compno: c,
+                                        precno: k,
+                                        x,
+                                        y,
+                                    };
+                                    break 'search;
+                                }
+                                l += 1;
+                            }
+                        }
+                        Cell::Nothing => {}
+                    }
+                    l_at = 0;
+                    r += 1;
+                }
+                r_at = resno0;
+                l_at = 0;
+                c += 1;
+            }
+            c_at = compno0;
+            r_at = resno0;
+            l_at = 0;
+            x = next_column(prep, resno0, resno1, compno0, compno1, y, x, tx1);
+        }
+        x_at = tx0;
+        c_at = compno0;
+        r_at = resno0;
+        l_at = 0;
+        y = next_row(prep, resno0, resno1, compno0, compno1, y, ty1);
+    }
+    if found {
+        Found::At(place)
+    } else {
+        Found::Nothing
+    }
+}

@@ -1,0 +1,87 @@
+// RLCP: resolution, layer, component, precinct (T.800 B.12.1.2).
+use crate::count::count_at;
+use crate::walk::Found;
+use crate::walk::Walk;
+use crate::walk::index;
+use crate::walk::is_free;
+use packets::cursor::Position;
+ghost use mathlib.Core.Path.{_≡_};
+ghost use Prim.Native.Nat.{_≤_};
+ghost use Rattle.laws.specs.Runs.{seek};
+ghost use Rattle.packets.specs.Tile.{Sheet, indexOf};
+ghost use Rattle.packets.specs.Orders.{Range};
+ghost use Rattle.walks.specs.Walk.{answerOf, Counted, SomeCounted};
+ghost use Rattle.walks.specs.Rlcp.{entry};
+
+// The first free position from (r, l, c, k) on.
+pub(crate) fn rlcp(
+    marks: &[u8],
+    prep: &[u32; 4224],
+    w: Walk,
+    r_from: u32,
+    l_from: u32,
+    c_from: u32,
+    k_from: u32,
+) -> Found
+    requires { ⌜ SomeCounted (now prep) w (now marks) ⌝ }
+    requires { ⌜ (w .resno0 ≤ «r_from») × (w .compno0 ≤ «c_from») ⌝ }
+    ensures { λ o. ⌜ ((s : Sheet) (g : Range) → Counted s g (now (prep .entry)) w (now (marks .entry)) → answerOf o ≡ seek (indexOf (s .st)) (now (marks .entry)) (entry «r_from» «l_from» «c_from» «k_from» s g)) ⌝ }
+{
+    let layno1 = w.layno1;
+    let resno1 = w.resno1;
+    let compno0 = w.compno0;
+    let compno1 = w.compno1;
+    let mut l_at = l_from;
+    let mut c_at = c_from;
+    let mut k_at = k_from;
+    let mut found = false;
+    let mut place = Position {
+        layno: 0,
+        resno: 0,
+        compno: 0,
+        precno: 0,
+        x: 0,
+        y: 0,
+    };
+    let mut r = r_from;
+    'search: while r < resno1 {
+        let mut l = l_at;
+        'ls: while l < layno1 {
+            let mut c = c_at;
+            'cs: while c < compno1 {
+                let count = count_at(prep, r, c);
+                let mut k = k_at;
+                'ks: while k < count {
+                    let i = index(w, l, r, c, k);
+                    if is_free(marks, i) {
+                        found = true;
+                        place = Position {
+                            layno: l,
+                            resno: r,
+                            compno: c,
+                            precno: k,
+                            x: 0,
+                            y: 0,
+                        };
+                        break 'search;
+                    }
+                    k += 1;
+                }
+                k_at = 0;
+                c += 1;
+            }
+            c_at = compno0;
+            k_at = 0;
+            l += 1;
+        }
+        l_at = 0;
+        c_at = compno0;
+        k_at = 0;
+        r += 1;
+    }
+    if found {
+        Found::At(place)
+    } else {
+        Found::Nothing
+    }
+}
