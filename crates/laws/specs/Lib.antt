@@ -28,10 +28,11 @@ pub mod Extremes
 pub mod Indexing
 pub mod Pointwise
 pub mod Means
+pub mod Parts
 pub mod Bounded
 pub mod Filled
-pub mod Zeros
 pub mod Runs
 pub mod Listing
+pub mod Zeros
 pub mod AllRuns
 pub mod RunLoop

@@ -8,6 +8,7 @@ pub mod Grid
 pub mod Positions
 pub mod Table
 pub mod Answers
+pub mod Apart
 pub mod Same
 pub mod Sound
 pub mod Calls

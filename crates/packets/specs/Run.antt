@@ -121,7 +121,7 @@ module _ (st : State) (table : List ℕ) where
       (run-lists same (indexOf st) ps (once k) (length ps + 1) marks (omega arith)))
 
 -- layers of a range are layers of the tile
-layers-within : (st : State) (q : Progression) → rangeOf st q .layno1 ≤ st .layers
+pub layers-within : (st : State) (q : Progression) → rangeOf st q .layno1 ≤ st .layers
 unfolding rangeOf
 layers-within st q = by (eqb (q .kind) 5)
   where

@@ -20,3 +20,4 @@ pub mod Lrcp
 pub mod Rlcp
 pub mod Records
 pub mod Search
+pub mod Plan

@@ -18,16 +18,9 @@ use Rattle.packets.specs.Resume.{freshStarts, startsAt, resume-fresh, resume-be
 use Rattle.packets.specs.declared.cursor.Position.{Position}
 use Rattle.packets.specs.declared.cursor.Place.{Place}
 use Rattle.packets.specs.declared.cursor.Place.the-variants as place
+use Rattle.sheets.specs.Ranges.{orderNumber}
 use Rattle.walks.specs.Walk.{Ranged, Counted, Ready}
 use Rattle.walks.specs.declared.walk.Walk.{Walk}
-
-abbrev pub orderNumber : Order → ℕ
-orderNumber lrcp = 0
-orderNumber rlcp = 1
-orderNumber rpcl = 2
-orderNumber pcrl = 3
-orderNumber cprl = 4
-orderNumber other = 5
 
 -- where the loops of an order start whose first position is p: precincts are counted in orders 0 and 1, and met at a point in the others
 abbrev pub startsFrom : Sheet → Order → Position → List (Position → ℕ)

@@ -5,6 +5,7 @@ mod cprl;
 mod lrcp;
 mod next;
 mod pcrl;
+mod plan;
 mod prepare;
 mod rlcp;
 mod rpcl;

@@ -15,8 +15,9 @@ ghost use Rattle.packets.specs.Tile.{Sheet, indexOf};
 ghost use Rattle.packets.specs.Orders.{Order, Range};
 ghost use Rattle.packets.specs.Positions.{positionsIn};
 ghost use Rattle.packets.specs.Calls.{after};
+ghost use Rattle.sheets.specs.Ranges.{orderNumber};
 ghost use Rattle.walks.specs.Walk.{answerOf};
-ghost use Rattle.walks.specs.Search.{firstOf, nextTry, orderNumber, leftFrom, Ordered, SomeStart, Stands, SomePlace};
+ghost use Rattle.walks.specs.Search.{firstOf, nextTry, leftFrom, Ordered, SomeStart, Stands, SomePlace};
 
 fn first(w: Walk) -> Position
     ensures { λ r. ⌜ r ≡ firstOf w ⌝ }

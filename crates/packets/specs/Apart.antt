@@ -1,0 +1,58 @@
+-- Two answers that say the same are the same. Assumes nothing.
+use mathlib.Core.Path.{_≡_, refl, sym, ap, _∙_}
+use mathlib.Core.Bool.{true, false}
+use mathlib.Core.Option.{Option, some, none}
+use Prim.Native.Nat.{zero, suc}
+use lib.Dec.{eqb}
+use lib.IntN.{ℤ, pos, negsuc}
+use Rattle.packets.specs.Answers.{numberOf, SetUpSaid, ofSetUp, OpenSaid, ofOpened}
+use Rattle.packets.specs.declared.cursor.Cursor.{Cursor}
+use Rattle.packets.specs.declared.answer.Verdict.{Verdict}
+use Rattle.packets.specs.declared.answer.Verdict.the-variants as verdict
+use Rattle.packets.specs.declared.answer.SetUp.{SetUp}
+use Rattle.packets.specs.declared.answer.Opened.{Opened}
+use Rattle.packets.specs.declared.answer.Opened.the-variants as opened
+
+-- a verdict from its number
+byNumber : ℤ → Verdict
+byNumber (pos n) = verdict.Accepted
+byNumber (negsuc zero) = verdict.Length
+byNumber (negsuc (suc zero)) = verdict.Shape
+byNumber (negsuc (suc (suc zero))) = verdict.Range
+byNumber (negsuc (suc (suc (suc zero)))) = verdict.Grid
+byNumber (negsuc (suc (suc (suc (suc zero))))) = verdict.TooMany
+byNumber (negsuc (suc (suc (suc (suc (suc zero)))))) = verdict.Marks
+byNumber (negsuc (suc (suc (suc (suc (suc (suc zero))))))) = verdict.Table
+byNumber (negsuc (suc (suc (suc (suc (suc (suc (suc n)))))))) = verdict.Output
+
+by-number : (v : Verdict) → byNumber (numberOf v) ≡ v
+unfolding byNumber
+by-number verdict.Accepted = refl
+by-number verdict.Length = refl
+by-number verdict.Shape = refl
+by-number verdict.Range = refl
+by-number verdict.Grid = refl
+by-number verdict.TooMany = refl
+by-number verdict.Marks = refl
+by-number verdict.Table = refl
+by-number verdict.Output = refl
+
+pub setup-apart : (r s : SetUp) → ofSetUp r ≡ ofSetUp s → r ≡ s
+setup-apart r s e =
+    let v = sym (by-number (r .verdict)) ∙ ap (λ (x : SetUpSaid). byNumber (x .number)) e ∙ by-number (s .verdict) in
+    λ i. record { verdict = v i; state = e i .state }
+
+-- an opening from what it says
+byCursor : Option Cursor → ℤ → Opened
+byCursor (some c) n = opened.Cursor c
+byCursor none (pos n) = opened.NoSuch
+byCursor none (negsuc n) = elim (eqb n 8) [ true ↦ opened.Unsound | false ↦ opened.NoSuch ]
+
+by-cursor : (o : Opened) → byCursor (ofOpened o .cursor) (ofOpened o .number) ≡ o
+unfolding byCursor
+by-cursor (opened.Cursor c) = refl
+by-cursor opened.Unsound = refl
+by-cursor opened.NoSuch = refl
+
+pub opened-apart : (r s : Opened) → ofOpened r ≡ ofOpened s → r ≡ s
+opened-apart r s e = sym (by-cursor r) ∙ ap (λ (x : OpenSaid). byCursor (x .cursor) (x .number)) e ∙ by-cursor s

@@ -1,0 +1,34 @@
+-- Each public contract of this crate allows one answer only, and setup's one later content of the table and of the marks. Assumes nothing.
+use mathlib.Core.Path.{_≡_, sym, _∙_}
+use borrow.Fn.Kinds.{Dens, resT, endedOf}
+use contract.Lifetimes.{Lfts}
+use denote.Ref.{now}
+use denote.Triple.Clauses.{AtExit}
+use Rattle.laws.specs.Determined.{determined, determined-by, OneAnswer}
+use Rattle.packets.specs.Answers.{ofOpened}
+use Rattle.packets.specs.Apart.{setup-apart, opened-apart}
+use Rattle.sheets.proofs.setup.Kinds as setup-kinds
+use Rattle.sheets.proofs.setup.Reads as setup
+use Rattle.sheets.proofs.state_sound.Kinds as state-sound-kinds
+use Rattle.sheets.proofs.state_sound.Reads as state-sound
+use Rattle.sheets.proofs.sound.Kinds as sound-kinds
+use Rattle.sheets.proofs.sound.Reads as sound
+use Rattle.sheets.proofs.open.Kinds as opening-kinds
+use Rattle.sheets.proofs.open.Reads as opening
+
+pub setup-determined : OneAnswer setup-kinds.ps setup-kinds.r setup.Post
+setup-determined κs a r s e f p q = setup-apart r s (p .0 ∙ sym (q .0))
+
+-- and what stands in the table and in the marks at exit
+pub setup-leaves : (κs : Lfts 3) (a : Dens κs setup-kinds.ps) (r s : resT setup-kinds.r κs .Denot) (e f : AtExit (endedOf 3 setup-kinds.ps setup-kinds.r) κs)
+    → setup.Post κs a r e → setup.Post κs a s f → (now (e .1 .0) ≡ now (f .1 .0)) × (now (e .1 .1 .0) ≡ now (f .1 .1 .0))
+setup-leaves κs a r s e f p q = (p .1 .0 ∙ sym (q .1 .0), p .1 .1 ∙ sym (q .1 .1))
+
+pub state-sound-determined : OneAnswer state-sound-kinds.ps state-sound-kinds.r state-sound.Post
+state-sound-determined κs a r s e f = determined _ r s
+
+pub sound-determined : OneAnswer sound-kinds.ps sound-kinds.r sound.Post
+sound-determined κs a r s e f = determined _ r s
+
+pub open-determined : OneAnswer opening-kinds.ps opening-kinds.r opening.Post
+open-determined κs a r s e f = determined-by ofOpened opened-apart _ r s

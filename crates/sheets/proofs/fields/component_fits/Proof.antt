@@ -1,0 +1,26 @@
+-- `component_fits`: the tests are those of the definition. Assumes nothing.
+use Rattle.sheets.specs.Fields.{componentFits}
+use borrow.Author.Needs.{needs}
+use Rattle.sheets.proofs.fields.component_fits.Statement.{statement}
+use Rattle.sheets.proofs.fields.component_fits.Tie as tie
+
+within-requires : tie.Need-within-requires
+within-requires c κs = search needs
+
+within-requires-2 : tie.Need-within-requires-2
+within-requires-2 c κs = search needs
+
+within-requires-3 : tie.Need-within-requires-3
+within-requires-3 c κs = search needs
+
+returns : tie.Need-returns
+unfolding componentFits
+returns c = cc
+
+returns-2 : tie.Need-returns-2
+unfolding componentFits
+returns-2 c = cc
+
+pub component-fits-spec : {M : Type 1} → statement M
+component-fits-spec =
+    tie.close (tie.spec within-requires within-requires-2 within-requires-3 returns returns-2)

@@ -1,0 +1,17 @@
+// The marks that setup clears.
+ghost use mathlib.Core.Path.{_≡_};
+ghost use Prim.Native.Nat.{_≤_};
+ghost use lib.ListN.{length, replicate};
+ghost use Rattle.words.specs.Words.{over};
+
+// Clears the first n marks.
+pub(crate) fn clear(marks: &mut [u8], n: usize)
+    requires { ⌜ n ≤ length (now marks) ⌝ }
+    ensures { λ _. ⌜ now (marks .exit) ≡ over (replicate n 0) (now (marks .entry)) ⌝ }
+{
+    let mut i: usize = 0;
+    while i < n {
+        marks[i] = 0;
+        i += 1;
+    }
+}
