@@ -5,13 +5,16 @@ use mathlib.Core.Option.{Option, some, none}
 use Prim.Native.Nat.{zero, suc}
 use lib.Dec.{eqb}
 use lib.IntN.{ℤ, pos, negsuc}
-use Rattle.packets.specs.Answers.{numberOf, SetUpSaid, ofSetUp, OpenSaid, ofOpened}
+use Rattle.packets.specs.Answers.{numberOf, SetUpSaid, ofSetUp, OpenSaid, ofOpened, StepSaid, ofStepped}
 use Rattle.packets.specs.declared.cursor.Cursor.{Cursor}
 use Rattle.packets.specs.declared.answer.Verdict.{Verdict}
 use Rattle.packets.specs.declared.answer.Verdict.the-variants as verdict
 use Rattle.packets.specs.declared.answer.SetUp.{SetUp}
 use Rattle.packets.specs.declared.answer.Opened.{Opened}
 use Rattle.packets.specs.declared.answer.Opened.the-variants as opened
+use Rattle.packets.specs.declared.answer.Stepped.{Stepped}
+use Rattle.packets.specs.declared.answer.Stepped.the-variants as stepped
+use Rattle.packets.specs.declared.cursor.Position.{Position}
 
 -- a verdict from its number
 byNumber : ℤ → Verdict
@@ -56,3 +59,18 @@ by-cursor opened.NoSuch = refl
 
 pub opened-apart : (r s : Opened) → ofOpened r ≡ ofOpened s → r ≡ s
 opened-apart r s e = sym (by-cursor r) ∙ ap (λ (x : OpenSaid). byCursor (x .cursor) (x .number)) e ∙ by-cursor s
+
+-- a step from what it says
+byPacket : Option Position → ℤ → Cursor → Stepped
+byPacket (some p) n c = stepped.Packet p c
+byPacket none (pos n) c = stepped.Ended c
+byPacket none (negsuc n) c = stepped.Unsound c
+
+by-packet : (r : Stepped) → byPacket (ofStepped r .packet) (ofStepped r .number) (ofStepped r .cursor) ≡ r
+unfolding byPacket
+by-packet (stepped.Packet p c) = refl
+by-packet (stepped.Ended c) = refl
+by-packet (stepped.Unsound c) = refl
+
+pub stepped-apart : (r s : Stepped) → ofStepped r ≡ ofStepped s → r ≡ s
+stepped-apart r s e = sym (by-packet r) ∙ ap (λ (x : StepSaid). byPacket (x .packet) (x .number) (x .cursor)) e ∙ by-packet s

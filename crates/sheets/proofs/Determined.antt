@@ -7,6 +7,12 @@ use denote.Triple.Clauses.{AtExit}
 use Rattle.laws.specs.Determined.{determined, determined-by, OneAnswer}
 use Rattle.packets.specs.Answers.{ofOpened}
 use Rattle.packets.specs.Apart.{setup-apart, opened-apart}
+use Rattle.sheets.specs.Ranges.{rangeIn}
+use Rattle.sheets.specs.declared.ranges.Range.{Range}
+use Rattle.sheets.proofs.ranges.order_of.Kinds as order-of-kinds
+use Rattle.sheets.proofs.ranges.order_of.Reads as order-of
+use Rattle.sheets.proofs.ranges.range_of.Kinds as range-of-kinds
+use Rattle.sheets.proofs.ranges.range_of.Reads as range-of
 use Rattle.sheets.proofs.setup.Kinds as setup-kinds
 use Rattle.sheets.proofs.setup.Reads as setup
 use Rattle.sheets.proofs.state_sound.Kinds as state-sound-kinds
@@ -32,3 +38,13 @@ sound-determined κs a r s e f = determined _ r s
 
 pub open-determined : OneAnswer opening-kinds.ps opening-kinds.r opening.Post
 open-determined κs a r s e f = determined-by ofOpened opened-apart _ r s
+
+pub order-of-determined : OneAnswer order-of-kinds.ps order-of-kinds.r order-of.Post
+order-of-determined κs a r s e f = determined _ r s
+
+range-apart : (r s : Range) → rangeIn r ≡ rangeIn s → r ≡ s
+range-apart r s e =
+    λ i. record { layno1 = e i .layno1; resno0 = e i .resno0; resno1 = e i .resno1; compno0 = e i .compno0; compno1 = e i .compno1 }
+
+pub range-of-determined : OneAnswer range-of-kinds.ps range-of-kinds.r range-of.Post
+range-of-determined κs a r s e f = determined-by rangeIn range-apart _ r s

@@ -21,3 +21,4 @@ pub mod Rlcp
 pub mod Records
 pub mod Search
 pub mod Plan
+pub mod Stepping

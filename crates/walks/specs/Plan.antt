@@ -16,7 +16,7 @@ use Rattle.packets.specs.Positions.{hasPositions, positionsIn}
 use Rattle.packets.specs.Table.{sheetAt}
 use Rattle.packets.specs.Grid.{changeOf}
 use Rattle.packets.specs.Sound.{positionsFor}
-use Rattle.packets.specs.Meaning.{Sound, StepsFit, AgreedFor, sound-good, sound-means}
+use Rattle.packets.specs.Meaning.{Sound, Admitted, StepsFit, AgreedFor, sound-good, sound-means}
 use Rattle.packets.specs.Good.{Good}
 use Rattle.packets.specs.Inside.{byPoints, has-good, good-has, positions-none, inside}
 use Rattle.packets.specs.Once.{below-most}
@@ -35,7 +35,7 @@ use Rattle.laws.specs.Below.{max-least}
 use Rattle.walks.specs.Prepare.{Filled}
 use Rattle.walks.specs.FromSound.{sound-play}
 use Rattle.walks.specs.Walk.{Ranged, Counted, Ready}
-use Rattle.walks.specs.Search.{known-by, Ordered, Stands}
+use Rattle.walks.specs.Search.{known-by, Ordered}
 use Rattle.walks.specs.declared.walk.Walk.{Walk}
 use Rattle.walks.specs.declared.plan.Plan.{Plan}
 
@@ -76,7 +76,7 @@ pub record Planned (st : State) (table : List ℕ) (k : ℕ) (prep : List ℕ) (
   pub walk : plan .walk ≡ walkFor st (rangeOf st (changeOf st k))
 
 abbrev pub SomePlan : List ℕ → Plan → List ℕ → Place → Type 0
-SomePlan prep plan marks q = (st : State) × ((table : List ℕ) × ((k : ℕ) × Planned st table k prep plan marks × Stands q (positionsFor st table k)))
+SomePlan prep plan marks q = (st : State) × ((table : List ℕ) × ((k : ℕ) × Planned st table k prep plan marks × Admitted q (positionsFor st table k)))
 
 module _ (st : State) (table : List ℕ) (k : ℕ) (prep : List ℕ) (plan : Plan) (marks : List ℕ) (d : Planned st table k prep plan marks) where
   abbrev s : Sheet

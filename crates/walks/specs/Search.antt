@@ -13,6 +13,7 @@ use Rattle.packets.specs.Positions.{loopsOf, hasPositions, positionsIn, numberA
 use Rattle.packets.specs.Calls.{after}
 use Rattle.packets.specs.Inside.{InRange, in-range, in-met, byPoints}
 use Rattle.packets.specs.Met.{MetAt}
+use Rattle.packets.specs.Meaning.{Admitted}
 use Rattle.packets.specs.Once.{index-small}
 use Rattle.packets.specs.Resume.{freshStarts, startsAt, resume-fresh, resume-behind}
 use Rattle.packets.specs.declared.cursor.Position.{Position}
@@ -139,12 +140,6 @@ module _ (o : Order) (p : Position) (n : ℕ) (e : orderNumber o ≡ n) where
       of cprl e = refl
       of other e = absurd (k (sym e))
 
--- the cursor's place is one that the progression has
-abbrev pub Stands : Place → List Position → Type 0
-Stands place.Fresh ps = Unit {0}
-Stands (place.At p) ps = In p ps
-Stands place.Ended ps = Unit {0}
-
 -- a progression with positions, of the order with this number
 pub record Ordered (s : Sheet) (g : Range) (prep : List ℕ) (w : Walk) (marks : List ℕ) (n : ℕ) (o : Order) : Type 0 where
   pub counted : Counted s g prep w marks
@@ -156,7 +151,7 @@ abbrev pub SomeStart : List ℕ → Walk → List ℕ → ℕ → Position → T
 SomeStart prep w marks n p = (s : Sheet) × ((g : Range) × ((o : Order) × Ordered s g prep w marks n o × Startable o w p))
 
 abbrev pub SomePlace : List ℕ → Walk → List ℕ → ℕ → Place → Type 0
-SomePlace prep w marks n q = (s : Sheet) × ((g : Range) × ((o : Order) × Ordered s g prep w marks n o × Stands q (positionsIn s g o)))
+SomePlace prep w marks n q = (s : Sheet) × ((g : Range) × ((o : Order) × Ordered s g prep w marks n o × Admitted q (positionsIn s g o)))
 
 module _ (s : Sheet) (g : Range) (prep : List ℕ) (w : Walk) (marks : List ℕ) (n : ℕ) (o : Order) (d : Ordered s g prep w marks n o) where
   first-starts : (o : Order) → startsFrom s o (firstOf w) ≡ freshStarts s g o
@@ -231,7 +226,7 @@ module _ (s : Sheet) (g : Range) (prep : List ℕ) (w : Walk) (marks : List ℕ)
     unfolding seek
     ended-found e = rw e
 
-    module _ (p : Position) (e : q ≡ place.At p) (h : Stands q (positionsIn s g o)) where
+    module _ (p : Position) (e : q ≡ place.At p) (h : Admitted q (positionsIn s g o)) where
       stands : In p (positionsIn s g o)
       stands = rw e at h
 

@@ -15,9 +15,10 @@ ghost use Rattle.packets.specs.Tile.{Sheet, indexOf};
 ghost use Rattle.packets.specs.Orders.{Order, Range};
 ghost use Rattle.packets.specs.Positions.{positionsIn};
 ghost use Rattle.packets.specs.Calls.{after};
+ghost use Rattle.packets.specs.Meaning.{Admitted};
 ghost use Rattle.sheets.specs.Ranges.{orderNumber};
 ghost use Rattle.walks.specs.Walk.{answerOf};
-ghost use Rattle.walks.specs.Search.{firstOf, nextTry, leftFrom, Ordered, SomeStart, Stands, SomePlace};
+ghost use Rattle.walks.specs.Search.{firstOf, nextTry, leftFrom, Ordered, SomeStart, SomePlace};
 
 fn first(w: Walk) -> Position
     ensures { λ r. ⌜ r ≡ firstOf w ⌝ }
@@ -78,7 +79,7 @@ fn walk_from(marks: &[u8], prep: &[u32; 4224], w: Walk, order: u32, p: Position)
 // The first free position behind a place of the progression.
 pub(crate) fn search(marks: &[u8], prep: &[u32; 4224], w: Walk, order: u32, place: Place) -> Found
     requires { ⌜ SomePlace (now prep) w (now marks) order place ⌝ }
-    ensures { λ f. ⌜ ((s : Sheet) (g : Range) (o : Order) → Ordered s g (now (prep .entry)) w (now (marks .entry)) order o → Stands place (positionsIn s g o) → answerOf f ≡ seek (indexOf (s .st)) (now (marks .entry)) (after place (positionsIn s g o))) ⌝ }
+    ensures { λ f. ⌜ ((s : Sheet) (g : Range) (o : Order) → Ordered s g (now (prep .entry)) w (now (marks .entry)) order o → Admitted place (positionsIn s g o) → answerOf f ≡ seek (indexOf (s .st)) (now (marks .entry)) (after place (positionsIn s g o))) ⌝ }
 {
     match place {
         Place::Fresh => walk_from(marks, prep, w, order, first(w)),

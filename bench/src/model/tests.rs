@@ -1,0 +1,106 @@
+//! 01's sheets A and P-a to P-l, and B7's slow ones, through the model.
+
+use super::{run, Answer, Points};
+use crate::commands::show::from_words;
+
+const A: &str = "1 0 0 64 32 2 1 1, 2 1 1 2, 3 4 4, 3 5 5";
+
+fn ask(words: &str) -> Result<Answer, i32> {
+    run(&from_words(words).unwrap(), Points::Candidates)
+}
+
+fn listed(words: &str) -> Vec<[u32; 4]> {
+    ask(words).unwrap_or_else(|number| panic!("refused {number}")).packets
+}
+
+/// Sheet A with these progressions (A has one; two need a count of 2).
+fn a_with(progressions: &str) -> String {
+    let head = if progressions.contains(',') { A.replace(" 2 1 1, 2", " 2 1 2, 2") } else { A.to_string() };
+    head + "," + progressions
+}
+
+#[test]
+fn p_a_lists_the_eight() {
+    let answer = ask(&a_with("5 2")).ok().unwrap();
+    let expected = [[0, 0, 0, 0], [1, 0, 0, 0], [0, 0, 0, 1], [1, 0, 0, 1]];
+    let upper = expected.map(|[l, _, c, k]| [l, 1, c, k]);
+    assert_eq!(answer.packets, [expected, upper].concat());
+    assert_eq!(answer.table, [[4, 4, 2, 1], [5, 5, 2, 1]]);
+    assert_eq!(answer.marks.len(), 8);
+}
+
+#[test]
+fn p_b_lists_layer_after_layer() {
+    let layers: Vec<u32> = listed(&a_with("5 0")).iter().map(|packet| packet[0]).collect();
+    assert_eq!(layers, [0, 0, 0, 0, 1, 1, 1, 1]);
+}
+
+#[test]
+fn p_c_keeps_marks_between_progressions() {
+    let packets = listed(&a_with("4 0 0 0 1 2 1, 4 2 0 0 2 2 1"));
+    assert_eq!(packets.iter().map(|packet| packet[0]).collect::<Vec<_>>(), [0, 0, 0, 0, 1, 1, 1, 1]);
+}
+
+#[test]
+fn p_d_starts_inside_a_precinct() {
+    let answer = ask("1 5 0 40 16 1 1 1, 2 1 1 1, 3 4 4, 5 2").ok().unwrap();
+    assert_eq!(answer.table, [[4, 4, 3, 1]]);
+    assert_eq!(answer.packets, [[0, 0, 0, 0], [0, 0, 0, 1], [0, 0, 0, 2]]);
+}
+
+#[test]
+fn p_e_and_p_f_have_nothing() {
+    assert_eq!(ask("1 1 0 2 1 1 1 1, 2 4 1 1, 3, 5").ok().unwrap().table, [[0, 0, 0, 1]]);
+    let empty = ask("1 7 0 7 9 1 1 1, 2 1 1 1, 3, 5 2").ok().unwrap();
+    assert!(empty.marks.is_empty() && empty.packets.is_empty());
+}
+
+#[test]
+fn p_g_takes_an_end_at_the_number_of_components() {
+    assert!(listed(&a_with("4 2 0 0 2 2 2")).is_empty());
+    assert_eq!(listed(&a_with("4 2 0 0 2 2 1")), listed(&a_with("5 2")));
+}
+
+#[test]
+fn p_h_and_p_i_test_the_grid() {
+    let two_and_three = |prg: u32| format!("1 0 0 9 9 1 2 1, 2 2 2 1, 3 4 4, 2 3 3 1, 3 4 4, 5 {prg}");
+    assert_eq!(ask(&two_and_three(2)).err(), Some(-4));
+    assert!(ask(&two_and_three(0)).is_ok() && ask(&two_and_three(4)).is_ok());
+    let deep = |d: u32| format!("1 0 0 9 9 1 1 1, 2 {d} {d} 17, {} 5 4", "3 15 15,".repeat(17));
+    assert_eq!(ask(&deep(2)).err(), Some(-4));
+    assert!(ask(&deep(1)).is_ok());
+}
+
+#[test]
+fn p_j_ends_at_the_last_coordinate() {
+    assert_eq!(listed("1 4294934528 0 T 1 1 1 1, 2 1 1 1, 3 15 15, 5 2"), [[0, 0, 0, 0]]);
+}
+
+#[test]
+fn p_k_and_p_l_have_no_positions() {
+    assert!(listed(&a_with("4 0 0 0 0 2 1")).is_empty());
+    assert!(listed(&a_with("5 -1")).is_empty() && listed(&a_with("5 5")).is_empty());
+}
+
+#[test]
+fn slow_sheets_are_not_slow_here() {
+    let rows = "1 0 1 T 64 1 2 32, 2 1 255 1, 3 0 15, 2 255 1 1, 3 15 0,".to_string();
+    assert_eq!(listed(&(rows + &"4 2 0 0 1 33 2,".repeat(32))).len(), 32_445);
+    let square = "1 0 0 32768 32768 1 2 1, 2 1 1 1, 3 0 15, 2 1 1 1, 3 15 0, 5 3";
+    assert_eq!(listed(square).len(), 65_536);
+    assert!(listed("1 0 1 T 2 1 1 1, 2 1 255 1, 3, 5 2").is_empty());
+}
+
+#[test]
+fn the_first_bad_record_decides() {
+    let refused = |words: &str| ask(words).err().unwrap();
+    assert_eq!(refused(""), -1);
+    assert_eq!(refused("1 0 0 1 1 1 1 1, 2 0 1 1"), -3);
+    assert_eq!(refused("1 0 0 1 1 1 1 1, 2 0 1 1 1"), -2);
+    assert_eq!(refused("1 0 0 1 1 1 1 1, 2 1 1 1, 3"), -2);
+    assert_eq!(refused("1 0 0 1 1 1 1 1, 2 1 1 1, 3, 5, 5"), -2);
+    assert_eq!(refused("1 0 0 1 1 1 1 2, 2 1 1 1, 3, 5"), -2);
+    assert_eq!(refused("1 0 0 1 1 1 1 2, 2 1 1 1, 3, 4, 5"), -2);
+    assert_eq!(refused("1 0 0 1 1 1 1 33, 2 1 1 1, 3, 5"), -3);
+    assert_eq!(refused("1 0 0 65536 65536 1 1 1, 2 1 1 1, 3, 5"), -5);
+}

@@ -1,0 +1,73 @@
+//! The sheets whose speed is measured, and who runs them.
+
+use oracle::driver::Timed;
+use oracle::sheet::{Component, Progressions, Range, Sheet};
+
+#[cfg(feature = "ours")]
+use crate::ours;
+
+/// The five orders' names.
+pub const ORDERS: [&str; 5] = ["LRCP", "RLCP", "RPCL", "PCRL", "CPRL"];
+
+/// Precinct exponents of every resolution.
+pub const EXPONENTS: [u32; 4] = [5, 6, 7, 8];
+
+/// A tile of 1024 by 1024, 4:2:0, six resolutions, three layers, one progression over all.
+pub fn usual(prg: i32, exponent: u32) -> Sheet {
+    let component = |d| Component { dx: d, dy: d, resolutions: vec![(exponent, exponent); 6] };
+    Sheet {
+        tx0: 0,
+        ty0: 0,
+        tx1: 1024,
+        ty1: 1024,
+        layers: 3,
+        components: [1, 2, 2].map(component).to_vec(),
+        progressions: Progressions::WholeTile(prg),
+    }
+}
+
+/// One thing of the usual sheet changed: what that costs.
+pub fn grown() -> Vec<(&'static str, Sheet)> {
+    let usual = usual(2, 6);
+    let mut resolutions = usual.clone();
+    for component in &mut resolutions.components {
+        component.resolutions = vec![(6, 6); 12];
+    }
+    let components = [usual.components.clone(), usual.components.clone()].concat();
+    let none = Range { prg: 2, resno0: 0, compno0: 0, layno1: 0, resno1: 0, compno1: 3 };
+    vec![
+        ("RPCL, precincts of 64", usual.clone()),
+        ("packets doubled (width 2048)", Sheet { tx1: 2048, ..usual.clone() }),
+        ("components doubled", Sheet { components, ..usual.clone() }),
+        ("resolutions doubled", resolutions),
+        ("setup only (no packets)", Sheet { progressions: Progressions::Ranges(vec![none]), ..usual }),
+    ]
+}
+
+/// A way to run one sheet; answers the number of packets.
+pub type Runner = Box<dyn FnMut() -> usize>;
+
+/// The Rust: create, walk, destroy.
+pub fn rust(sheet: &Sheet) -> Runner {
+    let mut timed = Timed::new(sheet);
+    Box::new(move || timed.create_walk_destroy())
+}
+
+/// Our whole run on the sheet's bytes.
+#[cfg(feature = "ours")]
+pub fn ours(sheet: &Sheet) -> Runner {
+    let bytes = sheet.bytes();
+    let mut table = vec![0; 16 * 16 * 33];
+    let mut marks = vec![0; 65_536];
+    let mut output = vec![0; 16 * 65_536];
+    Box::new(move || ours::whole_run(&bytes, &mut table, &mut marks, &mut output).unwrap_or(usize::MAX))
+}
+
+/// The Rust, and ours if it is linked.
+pub fn runners(sheet: &Sheet) -> Vec<Runner> {
+    vec![
+        rust(sheet),
+        #[cfg(feature = "ours")]
+        ours(sheet),
+    ]
+}
