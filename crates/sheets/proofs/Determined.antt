@@ -13,6 +13,8 @@ use Rattle.sheets.proofs.ranges.order_of.Kinds as order-of-kinds
 use Rattle.sheets.proofs.ranges.order_of.Reads as order-of
 use Rattle.sheets.proofs.ranges.range_of.Kinds as range-of-kinds
 use Rattle.sheets.proofs.ranges.range_of.Reads as range-of
+use Rattle.sheets.proofs.setup_with_room.Kinds as with-room-kinds
+use Rattle.sheets.proofs.setup_with_room.Reads as with-room
 use Rattle.sheets.proofs.setup.Kinds as setup-kinds
 use Rattle.sheets.proofs.setup.Reads as setup
 use Rattle.sheets.proofs.state_sound.Kinds as state-sound-kinds
@@ -29,6 +31,13 @@ setup-determined κs a r s e f p q = setup-apart r s (p .0 ∙ sym (q .0))
 pub setup-leaves : (κs : Lfts 3) (a : Dens κs setup-kinds.ps) (r s : resT setup-kinds.r κs .Denot) (e f : AtExit (endedOf 3 setup-kinds.ps setup-kinds.r) κs)
     → setup.Post κs a r e → setup.Post κs a s f → (now (e .1 .0) ≡ now (f .1 .0)) × (now (e .1 .1 .0) ≡ now (f .1 .1 .0))
 setup-leaves κs a r s e f p q = (p .1 .0 ∙ sym (q .1 .0), p .1 .1 ∙ sym (q .1 .1))
+
+pub with-room-determined : OneAnswer with-room-kinds.ps with-room-kinds.r with-room.Post
+with-room-determined κs a r s e f p q = setup-apart r s (p .0 ∙ sym (q .0))
+
+pub with-room-leaves : (κs : Lfts 3) (a : Dens κs with-room-kinds.ps) (r s : resT with-room-kinds.r κs .Denot) (e f : AtExit (endedOf 3 with-room-kinds.ps with-room-kinds.r) κs)
+    → with-room.Post κs a r e → with-room.Post κs a s f → (now (e .1 .0) ≡ now (f .1 .0)) × (now (e .1 .1 .0) ≡ now (f .1 .1 .0))
+with-room-leaves κs a r s e f p q = (p .1 .0 ∙ sym (q .1 .0), p .1 .1 ∙ sym (q .1 .1))
 
 pub state-sound-determined : OneAnswer state-sound-kinds.ps state-sound-kinds.r state-sound.Post
 state-sound-determined κs a r s e f = determined _ r s

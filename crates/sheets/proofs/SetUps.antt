@@ -19,7 +19,7 @@ use Rattle.packets.specs.Tile.{Sheet, resOf, maxPrec, maxRes, reported, needed,
 use Rattle.packets.specs.Grid.{gridAgreed}
 use Rattle.packets.specs.Table.{sheetIn, tableOf}
 use Rattle.packets.specs.Answers.{SetUpSaid, ofSetUp}
-use Rattle.packets.specs.Calls.{refusal, setupVerdict, setupOf, accepted}
+use Rattle.packets.specs.Calls.{refusal, setupVerdict, accepted}
 use Rattle.packets.specs.Reading.{read-good}
 use Rattle.packets.specs.Fields.{tile-good, components-sound, progressions-sound}
 use Rattle.packets.specs.declared.state.State.{State}
@@ -31,6 +31,7 @@ use Rattle.survey.specs.declared.Source.the-variants.{Records}
 use Rattle.survey.specs.Survey.{surveyed, surveyOf}
 use Rattle.survey.specs.Sources.{records-survey, prec-few}
 use Rattle.sheets.specs.Reports.{withReports}
+use Rattle.sheets.specs.Room.{roomVerdict, setupIn}
 use Rattle.sheets.proofs.InRange.{tile-some}
 use Rattle.sheets.proofs.SoundBy.{fieldsTest, some-levels}
 
@@ -60,18 +61,23 @@ module _ (b : List ℕ) (r : SetUp) (said : ofSetUp r ≡ readOf b) (z : ℤ) (e
   unfolding readOf
   read-fields h = ap (λ (s : SetUpSaid). s .state) said ∙ rw (eq-eqb _ 0 h) refl
 
-module _ (b table marks : List ℕ) where
+module _ (b table marks : List ℕ) (room : ℕ) where
   -- what setup is to answer and to leave
   abbrev pub Left : SetUp → List ℕ → List ℕ → Type 0
-  Left r t m = (ofSetUp r ≡ setupOf b table marks .said) × ((t ≡ setupOf b table marks .table) × (m ≡ setupOf b table marks .marks))
+  Left r t m = (ofSetUp r ≡ setupIn b table marks room .said) × ((t ≡ setupIn b table marks room .table) × (m ≡ setupIn b table marks room .marks))
 
   -- the answer that refuses with -n, and everything as it was
   abbrev pub Refuses : ℕ → Type 0
   Refuses n = (r : SetUp) → ofSetUp r ≡ record { number = refusal n; state = emptyState } → Left r table marks
 
   turned-away : (n : ℕ) → (n ≡ 0 → ⊥) → setupVerdict b table marks ≡ n → Refuses n
-  unfolding setupOf
-  turned-away n k e r said = rw (e, ne-eqb n 0 k) (said, (refl, refl))
+  unfolding setupIn roomVerdict
+  turned-away n k e r said = rw (e, ne-eqb n 0 k) (rw (ne-eqb n 0 k) (said, (refl, refl)))
+
+  -- everything but the room is there
+  no-room : setupVerdict b table marks ≡ 0 → room < 16 * needed (reported (sheetIn b)) → Refuses 8
+  unfolding setupIn roomVerdict
+  no-room e h r said = rw (e, lt-leb _ _ h) (said, (refl, refl))
 
   pub refused-reading : (readVerdict b ≡ 0 → ⊥) → (r : SetUp) → ofSetUp r ≡ readOf b → Left r table marks
   unfolding setupVerdict readOf
@@ -83,7 +89,7 @@ pub record Seen (b : List ℕ) (st : State) (f : Findings) : Type 0 where
   pub fields : st ≡ fieldsOf b
   pub said : f ≡ surveyOf b Records false st
 
-module _ {b : List ℕ} {st : State} {f : Findings} (w : Seen b st f) (table marks : List ℕ) where
+module _ {b : List ℕ} {st : State} {f : Findings} (w : Seen b st f) (table marks : List ℕ) (room : ℕ) where
   abbrev s : Sheet
   s = sheetIn b
 
@@ -93,21 +99,21 @@ module _ {b : List ℕ} {st : State} {f : Findings} (w : Seen b st f) (table mar
   pub fields-good : fieldsTest st ≡ true
   fields-good = let r = read-good b (w .read) in rw (w .fields) (and-both (tile-good b r) (and-both (components-sound b r) (progressions-sound b r)))
 
-  pub refused-grid : f .grid ≡ false → Refuses b table marks 4
+  pub refused-grid : f .grid ≡ false → Refuses b table marks room 4
   unfolding setupVerdict
   refused-grid h =
       let none : gridAgreed s ≡ false = sym (ap (λ (f : Findings). f .grid) found) ∙ h in
-      turned-away b table marks 4 (λ z. omega arith) (rw (eq-eqb _ 0 (w .read), none))
+      turned-away b table marks room 4 (λ z. omega arith) (rw (eq-eqb _ 0 (w .read), none))
 
   module _ (grid : f .grid ≡ true) where
     agreed : gridAgreed s ≡ true
     agreed = sym (ap (λ (f : Findings). f .grid) found) ∙ grid
 
-    pub refused-many : f .few ≡ false → Refuses b table marks 5
+    pub refused-many : f .few ≡ false → Refuses b table marks room 5
     unfolding setupVerdict
     refused-many h =
         let many : leb (needed (reported s)) 65536 ≡ false = sym (ap (λ (f : Findings). f .few) found) ∙ h in
-        turned-away b table marks 5 (λ z. omega arith) (rw (eq-eqb _ 0 (w .read), agreed, many))
+        turned-away b table marks room 5 (λ z. omega arith) (rw (eq-eqb _ 0 (w .read), agreed, many))
 
     module _ (few : f .few ≡ true) where
       below : leb (needed (reported s)) 65536 ≡ true
@@ -126,35 +132,43 @@ module _ {b : List ℕ} {st : State} {f : Findings} (w : Seen b st f) (table mar
           let l : 1 ≤ maxRes (fieldsOf b) = rw (← (w .fields)) (some-levels st fields-good) in
           omega (arith, prec-is, prec-few s (t .0) l (t .1), leb-true (needed (reported s)) 65536 below)
 
-      pub refused-marks : length marks < f .needed → Refuses b table marks 6
+      pub refused-marks : length marks < f .needed → Refuses b table marks room 6
       unfolding setupVerdict
       refused-marks h =
           let short : length marks < needed (reported s) = rw (← needed-is) h in
-          turned-away b table marks 6 (λ z. omega arith) (rw (eq-eqb _ 0 (w .read), agreed, below, lt-leb _ _ short))
+          turned-away b table marks room 6 (λ z. omega arith) (rw (eq-eqb _ 0 (w .read), agreed, below, lt-leb _ _ short))
 
-      module _ (room : f .needed ≤ length marks) where
+      module _ (held : f .needed ≤ length marks) where
         enough : needed (reported s) ≤ length marks
-        enough = rw (← needed-is) room
+        enough = rw (← needed-is) held
 
         table-is : tableBytes (reported s) ≡ 16 * sumBelow (resOf st) (st .components)
         unfolding reported entriesBefore
         table-is = rw (w .fields)
 
-        pub refused-table : length table < 16 * sumBelow (resOf st) (st .components) → Refuses b table marks 7
+        pub refused-table : length table < 16 * sumBelow (resOf st) (st .components) → Refuses b table marks room 7
         unfolding setupVerdict
         refused-table h =
             let short : length table < tableBytes (reported s) = rw table-is h in
-            turned-away b table marks 7 (λ z. omega arith) (rw (eq-eqb _ 0 (w .read), agreed, below, le-leb _ _ enough, lt-leb _ _ short))
+            turned-away b table marks room 7 (λ z. omega arith) (rw (eq-eqb _ 0 (w .read), agreed, below, le-leb _ _ enough, lt-leb _ _ short))
+
+        passed : 16 * sumBelow (resOf st) (st .components) ≤ length table → setupVerdict b table marks ≡ 0
+        unfolding setupVerdict
+        passed h =
+            let long : tableBytes (reported s) ≤ length table = rw table-is h in
+            rw (eq-eqb _ 0 (w .read), agreed, below, le-leb _ _ enough, le-leb _ _ long)
+
+        pub refused-room : 16 * sumBelow (resOf st) (st .components) ≤ length table → room < 16 * f .needed → Refuses b table marks room 8
+        refused-room h k = no-room b table marks room (passed h) (rw (← needed-is) k)
 
         state-is : withReports st f ≡ reported s
         unfolding reported
         state-is = (λ i. withReports (w .fields i) (found i)) ∙ rw below refl
 
         -- accepted
-        pub accepted-left : 16 * sumBelow (resOf st) (st .components) ≤ length table
-            → Left b table marks (record { verdict = Accepted; state = withReports st f }) (over (tableOf s) table) (over (replicate (f .needed) 0) marks)
-        unfolding setupOf setupVerdict
-        accepted-left h =
-            let long : tableBytes (reported s) ≤ length table = rw table-is h in
-            let v : setupVerdict b table marks ≡ 0 = rw (eq-eqb _ 0 (w .read), agreed, below, le-leb _ _ enough, le-leb _ _ long) in
-            rw v ((λ i. record { number = pos 0; state = state-is i }), (refl, λ i. over (replicate (needed-is i) 0) marks))
+        pub accepted-left : 16 * sumBelow (resOf st) (st .components) ≤ length table → 16 * f .needed ≤ room
+            → Left b table marks room (record { verdict = Accepted; state = withReports st f }) (over (tableOf s) table) (over (replicate (f .needed) 0) marks)
+        unfolding setupIn roomVerdict
+        accepted-left h k =
+            let wide : 16 * needed (reported s) ≤ room = rw (← needed-is) k in
+            rw (passed h, le-leb _ _ wide) ((λ i. record { number = pos 0; state = state-is i }), (refl, λ i. over (replicate (needed-is i) 0) marks))

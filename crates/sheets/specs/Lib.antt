@@ -5,3 +5,4 @@ pub mod Written
 pub mod Points
 pub mod Reports
 pub mod Refused
+pub mod Room

@@ -19,6 +19,10 @@ ghost use Rattle.packets.specs.Sound as spec;
 ghost use Rattle.packets.specs.Sound.{stateSound};
 ghost use Rattle.packets.specs.Calls.{setupOf, openOf};
 ghost use Rattle.sheets.specs.Refused.{refusedOf};
+ghost use Rattle.sheets.specs.Room.{setupIn};
+
+// A record of 16 bytes for each of 65,536 marks.
+const RUN_BYTES: usize = 1_048_576;
 
 // A refusal carries only its number.
 fn refused(verdict: Verdict) -> SetUp
@@ -28,11 +32,11 @@ fn refused(verdict: Verdict) -> SetUp
     SetUp { verdict, state }
 }
 
-// Reads a sheet. If it is accepted, writes its table and clears the marks that it needs; a refusal, -1 to -7, changes nothing.
-pub fn setup(sheet: &[u8], table: &mut [u8], marks: &mut [u8]) -> SetUp
-    ensures says { λ r. ⌜ ofSetUp r ≡ setupOf (now (sheet .entry)) (now (table .entry)) (now (marks .entry)) .said ⌝ }
-    ensures written { λ _. ⌜ now (table .exit) ≡ setupOf (now (sheet .entry)) (now (table .entry)) (now (marks .entry)) .table ⌝ }
-    ensures cleared { λ _. ⌜ now (marks .exit) ≡ setupOf (now (sheet .entry)) (now (table .entry)) (now (marks .entry)) .marks ⌝ }
+// Setup for a run with an output of so many bytes: a refusal, -1 to -8, changes nothing.
+pub fn setup_with_room(sheet: &[u8], table: &mut [u8], marks: &mut [u8], room: usize) -> SetUp
+    ensures says { λ r. ⌜ ofSetUp r ≡ setupIn (now (sheet .entry)) (now (table .entry)) (now (marks .entry)) room .said ⌝ }
+    ensures written { λ _. ⌜ now (table .exit) ≡ setupIn (now (sheet .entry)) (now (table .entry)) (now (marks .entry)) room .table ⌝ }
+    ensures cleared { λ _. ⌜ now (marks .exit) ≡ setupIn (now (sheet .entry)) (now (table .entry)) (now (marks .entry)) room .marks ⌝ }
 {
     let read = reader::read(sheet);
     let verdict = read.verdict;
@@ -51,6 +55,9 @@ pub fn setup(sheet: &[u8], table: &mut [u8], marks: &mut [u8]) -> SetUp
             if table.len() < 16 * table::entries(&resolutions, st.components as usize) {
                 return refused(Verdict::Table);
             }
+            if room < 16 * needed {
+                return refused(Verdict::Output);
+            }
             table::write_table(sheet, st, table);
             marks::clear(marks, needed);
             let state = reports::reported(st, found);
@@ -62,6 +69,15 @@ pub fn setup(sheet: &[u8], table: &mut [u8], marks: &mut [u8]) -> SetUp
         return refused(Verdict::TooMany);
     }
     refused(Verdict::Grid)
+}
+
+// Reads a sheet. If it is accepted, writes its table and clears the marks that it needs; a refusal, -1 to -7, changes nothing.
+pub fn setup(sheet: &[u8], table: &mut [u8], marks: &mut [u8]) -> SetUp
+    ensures says { λ r. ⌜ ofSetUp r ≡ setupOf (now (sheet .entry)) (now (table .entry)) (now (marks .entry)) .said ⌝ }
+    ensures written { λ _. ⌜ now (table .exit) ≡ setupOf (now (sheet .entry)) (now (table .entry)) (now (marks .entry)) .table ⌝ }
+    ensures cleared { λ _. ⌜ now (marks .exit) ≡ setupOf (now (sheet .entry)) (now (table .entry)) (now (marks .entry)) .marks ⌝ }
+{
+    setup_with_room(sheet, table, marks, RUN_BYTES)
 }
 
 // Every rule that setup establishes holds of a state with its table and marks.

@@ -22,3 +22,5 @@ pub mod Records
 pub mod Search
 pub mod Plan
 pub mod Stepping
+pub mod Running
+pub mod RunAll

@@ -58,3 +58,8 @@ over-packets ps (q ∷ qs) old h =
     let next : putPackets (over (recordsOf (ps ++ (q ∷ []))) old) (length (ps ++ (q ∷ []))) qs ≡ over (recordsOf ((ps ++ (q ∷ [])) ++ qs)) old
     = over-packets (ps ++ (q ∷ [])) qs old (omega arith) in
     rw (over-packet ps old q (omega arith), ← n) (next ∙ ap (λ (l : List Position). over (recordsOf l) old) (append-assoc ps (q ∷ []) qs))
+
+-- four words written one after the other
+pub packet-put : (o : List ℕ) (at : ℕ) (p : Position) {a b c d : List ℕ} → a ≡ putWord o at (p .layno) → b ≡ putWord a (at + 4) (p .resno)
+    → c ≡ putWord b (at + 8) (p .compno) → d ≡ putWord c (at + 12) (p .precno) → d ≡ putPacket o at p
+packet-put o at p ea eb ec ed = rw (ed, ec, eb, ea)

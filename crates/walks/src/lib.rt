@@ -10,6 +10,7 @@ mod plan;
 mod prepare;
 mod rlcp;
 mod rpcl;
+mod run;
 mod search;
 pub mod step;
 mod walk;
