@@ -9,7 +9,7 @@ test:
 check:
 	rt check
 
-# A wider run of wrong programs that the check must refuse (about an hour).
+# A wider run of wrong programs that the check must refuse (long: a check of a crate for each).
 mutants:
 	tools/mutants
 
