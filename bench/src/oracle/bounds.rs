@@ -5,6 +5,7 @@ use std::mem::zeroed;
 
 use crate::fault;
 use crate::openjpeg::*;
+use crate::tile::asked;
 
 /// Image area, tile grid origin, tile size, numbers of tiles across and down, tile number.
 #[derive(Clone, Copy, Debug, PartialEq)]
@@ -56,22 +57,6 @@ impl Asker {
         (cp.tw, cp.th) = (grid.tw, grid.th);
         // openjp2 looks up the tile's own record at `tcps + tileno`; there is one, and it is meant.
         cp.tcps = black_box((&raw mut **tcp).wrapping_sub(grid.tileno as usize));
-        let [mut tx0, mut tx1, mut ty0, mut ty1] = [0; 4];
-        let [mut dx_min, mut dy_min, mut max_prec, mut max_res] = [0; 4];
-        crate::pi::opj_get_all_encoding_parameters(
-            image,
-            cp,
-            grid.tileno,
-            &mut tx0,
-            &mut tx1,
-            &mut ty0,
-            &mut ty1,
-            &mut dx_min,
-            &mut dy_min,
-            &mut max_prec,
-            &mut max_res,
-            core::ptr::null_mut(),
-        );
-        [tx0, ty0, tx1, ty1]
+        asked(image, cp, grid.tileno, core::ptr::null_mut()).0
     }
 }

@@ -54,32 +54,42 @@ impl Tile {
     pub(crate) fn parameters(&mut self) -> Parameters {
         let mut words: Vec<[u32; 4 * 33]> = vec![[0; 4 * 33]; self.tccps.len()];
         let mut pointers: Vec<*mut u32> = words.iter_mut().map(|words| words.as_mut_ptr()).collect();
-        let [mut tx0, mut tx1, mut ty0, mut ty1] = [0; 4];
-        let [mut dx_min, mut dy_min, mut max_prec, mut max_res] = [0; 4];
         let (image, cp) = self.linked();
-        crate::pi::opj_get_all_encoding_parameters(
-            image,
-            cp,
-            0,
-            &mut tx0,
-            &mut tx1,
-            &mut ty0,
-            &mut ty1,
-            &mut dx_min,
-            &mut dy_min,
-            &mut max_prec,
-            &mut max_res,
-            pointers.as_mut_ptr(),
-        );
+        let (bounds, reports) = asked(image, cp, 0, pointers.as_mut_ptr());
         let table = words
             .iter()
             .zip(self.resolutions())
             .flat_map(|(words, count)| words.chunks_exact(4).take(count))
             .map(|words| words.try_into().unwrap())
             .collect();
-        let reports = Reports { max_prec, max_res, dx_min, dy_min };
-        Parameters { bounds: [tx0, ty0, tx1, ty1], reports, table }
+        Parameters { bounds, reports, table }
     }
+}
+
+/// Asks `opj_get_all_encoding_parameters` for a tile's bounds (tx0, ty0, tx1, ty1) and reports; it writes the tables that are given.
+pub(crate) fn asked(
+    image: *mut opj_image_t,
+    cp: *mut opj_cp_t,
+    tileno: u32,
+    tables: *mut *mut u32,
+) -> ([u32; 4], Reports) {
+    let [mut tx0, mut tx1, mut ty0, mut ty1] = [0; 4];
+    let [mut dx_min, mut dy_min, mut max_prec, mut max_res] = [0; 4];
+    crate::pi::opj_get_all_encoding_parameters(
+        image,
+        cp,
+        tileno,
+        &mut tx0,
+        &mut tx1,
+        &mut ty0,
+        &mut ty1,
+        &mut dx_min,
+        &mut dy_min,
+        &mut max_prec,
+        &mut max_res,
+        tables,
+    );
+    ([tx0, ty0, tx1, ty1], Reports { max_prec, max_res, dx_min, dy_min })
 }
 
 /// The answer of `opj_get_all_encoding_parameters`.

@@ -13,8 +13,6 @@ use Rattle.packets.specs.declared.answer.Opened.{Opened}
 use Rattle.packets.specs.declared.answer.Opened.the-variants as opened
 use Rattle.packets.specs.declared.answer.Stepped.{Stepped}
 use Rattle.packets.specs.declared.answer.Stepped.the-variants as stepped
-use Rattle.packets.specs.declared.answer.Ran.{Ran}
-use Rattle.packets.specs.declared.answer.Ran.the-variants as ran
 
 -- setup and whole run: -1 to -8
 abbrev pub numberOf : Verdict → ℤ
@@ -56,8 +54,3 @@ abbrev pub ofStepped : Stepped → StepSaid
 ofStepped (stepped.Packet p c) = record { number = pos 1; packet = some p; cursor = c }
 ofStepped (stepped.Ended c) = record { number = pos 0; packet = none; cursor = c }
 ofStepped (stepped.Unsound c) = record { number = negsuc 8; packet = none; cursor = c }
-
--- whole run: the count, or -1 to -8
-abbrev pub ofRan : Ran → ℤ
-ofRan (ran.Count n) = pos n
-ofRan (ran.Refused v) = numberOf v

@@ -12,6 +12,7 @@ pub mod Apart
 pub mod Same
 pub mod Sound
 pub mod Calls
+pub mod Bounds
 pub mod Text
 pub mod Good
 pub mod Loops

@@ -64,9 +64,3 @@ pub enum Stepped {
     // -9: the cursor as given
     Unsound(Cursor),
 }
-
-pub enum Ran {
-    // how many packets were listed
-    Count(u32),
-    Refused(Verdict),
-}

@@ -31,6 +31,7 @@ use Rattle.survey.specs.declared.Source.the-variants.{Records}
 use Rattle.survey.specs.Survey.{surveyed, surveyOf}
 use Rattle.survey.specs.Sources.{records-survey, prec-few}
 use Rattle.sheets.specs.Reports.{withReports}
+use Rattle.sheets.specs.Refused.{negative}
 use Rattle.sheets.specs.Room.{roomVerdict, setupIn}
 use Rattle.sheets.proofs.InRange.{tile-some}
 use Rattle.sheets.proofs.SoundBy.{fieldsTest, some-levels}
@@ -46,12 +47,6 @@ module _ (b : List ℕ) (r : SetUp) (said : ofSetUp r ≡ readOf b) (z : ℤ) (e
       split (eqb (readVerdict b) 0)
       (λ t. eqb-true _ 0 t)
       (λ t. absurd (negative (readVerdict b - 1) z (number-is ∙ rw t refl) f k))
-    where
-      negative : (n : ℕ) (z : ℤ) → z ≡ negsuc n → SFits w32 z → ofZ w32 z ≡ 0 → ⊥
-      negative n z e f k =
-          let g : SFits w32 (negsuc n) = rw e at f in
-          let h : 2 ^ 32 - suc n ≡ 0 = rw e at k in
-          omega (arith, g .sfits)
 
   pub read-bad : (ofZ w32 z ≡ 0 → ⊥) → readVerdict b ≡ 0 → ⊥
   unfolding readOf

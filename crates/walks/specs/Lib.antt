@@ -24,3 +24,4 @@ pub mod Plan
 pub mod Stepping
 pub mod Running
 pub mod RunAll
+pub mod Whole

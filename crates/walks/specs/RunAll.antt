@@ -74,6 +74,10 @@ module _ (st : State) (table prep marks : List ℕ) (d : Arranged st table prep 
       (λ p i. let s = marks-needed k p i in (s, omega (arith, s, d .sound .marks-long))) in
       omega (arith, h, zeros-most (needed st) marks)
 
+  pub count-few : (output : List ℕ) (k : ℕ) → totalOf (indexOf st) marks output 0 (upTo st table k) .count ≤ 65536
+  unfolding totalOf
+  count-few output k = omega (arith, all-few k, d .sound .few)
+
   -- what planning a progression asks for
   pub plan-asks : (k : ℕ) → k < st .progressions → (k < 32) × (strideR st ≤ 65536) × (strideL st ≤ 65536)
   plan-asks k h = let w = strides-small st table marks (d .sound) in (omega (arith, h, d .sound .tile .progressions .1), w .0, w .1)

@@ -14,3 +14,4 @@ mod run;
 mod search;
 pub mod step;
 mod walk;
+pub mod whole;

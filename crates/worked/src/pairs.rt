@@ -80,7 +80,7 @@ fn each(a: u32, b: u32) {
     component_bound(a, b);
 }
 
-pub fn all() {
+pub(crate) fn all() {
     for i in 0..32 {
         let p = PAIRS[i];
         each(p.0, p.1);

@@ -63,7 +63,7 @@ fn each(a: u32, b: u32) {
     resolution_bound(a, b);
 }
 
-pub fn all() {
+pub(crate) fn all() {
     for i in 0..32 {
         let s = SHIFTS[i];
         each(s.0, s.1);

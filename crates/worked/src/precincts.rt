@@ -51,7 +51,7 @@ fn precincts(r0: u32, r1: u32, pd: u32) {
     show::answer(precinct::precincts(r0, r1, pd));
 }
 
-pub fn all() {
+pub(crate) fn all() {
     for i in 0..36 {
         let s = SPANS[i];
         precincts(s.0, s.1, s.2);

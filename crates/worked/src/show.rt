@@ -1,25 +1,25 @@
 // Printing: the parts of a line.
 use geometry::math::Word;
 
-pub fn number(n: u64) {
+pub(crate) fn number(n: u64) {
     io::write_all(1, b" ");
     io::print_decimal(1, n);
 }
 
 // The function's name and two operands.
-pub fn call(name: &[u8], a: u64, b: u64) {
+pub(crate) fn call(name: &[u8], a: u64, b: u64) {
     io::write_all(1, name);
     number(a);
     number(b);
 }
 
-pub fn equals(n: u32) {
+pub(crate) fn equals(n: u32) {
     io::write_all(1, b" =");
     number(n as u64);
     io::write_all(1, b"\n");
 }
 
-pub fn answer(w: Word) {
+pub(crate) fn answer(w: Word) {
     match w {
         Word::Value(n) => {
             equals(n);

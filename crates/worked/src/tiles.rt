@@ -114,7 +114,7 @@ fn run(c: Case) {
     tile_bounds(image, grid, c.10);
 }
 
-pub fn all() {
+pub(crate) fn all() {
     for i in 0..40 {
         let c = CASES[i];
         run(c);

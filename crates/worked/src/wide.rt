@@ -45,7 +45,7 @@ fn uint64_ceildiv_res_uint32(a: u64, b: u64) {
     show::answer(math::uint64_ceildiv_res_uint32(a, b));
 }
 
-pub fn all() {
+pub(crate) fn all() {
     for i in 0..32 {
         let p = PAIRS[i];
         uint64_ceildiv_res_uint32(p.0, p.1);

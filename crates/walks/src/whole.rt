@@ -1,0 +1,36 @@
+// The whole run: setup, then every progression in turn until it ends (01, 'The calls').
+use crate::prepare::prepare;
+use crate::run::run_all;
+ghost use mathlib.Core.Path.{_≡_};
+ghost use Rattle.packets.specs.Calls.{wholeRunOf};
+
+// Sets a sheet up and lists its packets, a record of 16 bytes each, and answers how many; or -1 to -8, and nothing changes.
+pub fn whole_run(sheet: &[u8], table: &mut [u8], marks: &mut [u8], output: &mut [u8]) -> i32
+    ensures says { λ r. ⌜ r ≡ wholeRunOf (now (sheet .entry)) (now (table .entry)) (now (marks .entry)) (now (output .entry)) .number ⌝ }
+    ensures written { λ _. ⌜ now (table .exit) ≡ wholeRunOf (now (sheet .entry)) (now (table .entry)) (now (marks .entry)) (now (output .entry)) .table ⌝ }
+    ensures marked { λ _. ⌜ now (marks .exit) ≡ wholeRunOf (now (sheet .entry)) (now (table .entry)) (now (marks .entry)) (now (output .entry)) .marks ⌝ }
+    ensures listed { λ _. ⌜ now (output .exit) ≡ wholeRunOf (now (sheet .entry)) (now (table .entry)) (now (marks .entry)) (now (output .entry)) .output ⌝ }
+{
+    let answer = sheets::setup_with_room(sheet, table, marks, output.len());
+    let verdict = answer.verdict;
+    let number = verdict.number();
+    if number != 0 {
+        return number;
+    }
+    let st = answer.state;
+    let mut prep = [0u32; 4224];
+    let dx = st.dx;
+    let dy = st.dy;
+    let resolutions = st.resolutions;
+    prepare(
+        &mut prep,
+        table,
+        st.components,
+        &dx,
+        &dy,
+        &resolutions,
+        st.tx0,
+        st.ty0,
+    );
+    run_all(st, &prep, marks, output) as i32
+}
