@@ -1,0 +1,3 @@
+-- What the proofs of the exports share.
+pub mod Bounding
+pub mod Determined
