@@ -1,5 +1,12 @@
 # The commands of the README.
-.PHONY: test check mutants differential fmt clean
+.PHONY: test check mutants differential fuzz bench slow vectors list host archive install fmt clean
+
+SHEET ?= sheets/a
+PREFIX ?= /usr/local
+C_FLAGS = -std=c11 -Wall -Wextra -Wpedantic -Werror -O2 -Iinclude
+CRATES := crates.txt $(shell find crates -type f ! -path '*/must-fail/*' ! -path '*/mutants/*')
+LISTING = target/bin/listing
+ARCHIVE = target/staticlib/libhost.a
 
 # Every proof, must-fail edit and test, from nothing.
 test:
@@ -13,10 +20,60 @@ check:
 mutants:
 	tools/mutants
 
-# The Rust, unchanged from ../shared/docs/src, beside a model written from document 01: optimised, then with overflow checks.
-differential:
-	cd bench && cargo run --release -- differential --sheets 1000000 --bounds 10000000
-	cd bench && cargo run --profile checked -- differential --sheets 100000 --bounds 1000000
+# The Rust, unchanged from ../shared/docs/src, beside a model written from document 01 and our archive: optimised, then with overflow checks.
+differential: $(ARCHIVE)
+	tools/bench differential --sheets 1000000 --bounds 10000000
+	tools/bench --checked differential --sheets 100000 --bounds 1000000
+
+# Random and mutated bytes through the archive, in buffers of many lengths between guard bytes.
+fuzz: $(ARCHIVE)
+	tools/bench fuzz
+
+# Time and instructions of a whole run beside the Rust's; then sheets with few packets and a huge grid, and a search for more.
+bench: $(ARCHIVE)
+	tools/bench bench
+	tools/bench instructions
+
+slow: $(ARCHIVE)
+	tools/bench slow --search 20000
+
+# The stored answers that the program crates/vectors replays: the Rust's and the model's.
+vectors:
+	cd bench && cargo run --profile checked -- vectors ../crates/vectors/data
+
+# The listing of a sheet in words, on standard output: make list SHEET=sheets/a
+list: $(LISTING)
+	@tools/list "$(SHEET)"
+
+# The archive for C, target/staticlib/libhost.a.
+archive: $(ARCHIVE)
+
+# The C host of examples/host, as target/c/host.
+host: target/c/host
+
+# The archive, the header and a pkg-config file, under DESTDIR and PREFIX.
+install: $(ARCHIVE)
+	install -d "$(DESTDIR)$(PREFIX)/include" "$(DESTDIR)$(PREFIX)/lib/pkgconfig"
+	install -m 644 include/bonxigarth.h "$(DESTDIR)$(PREFIX)/include/bonxigarth.h"
+	install -m 644 $(ARCHIVE) "$(DESTDIR)$(PREFIX)/lib/libbonxigarth.a"
+	sed 's|@PREFIX@|$(PREFIX)|' include/bonxigarth.pc.in >"$(DESTDIR)$(PREFIX)/lib/pkgconfig/bonxigarth.pc"
+
+# rt tells by contents what to prove again, and leaves alone what is as it was: hence the touch.
+$(LISTING): $(CRATES)
+	@rt check listing >&2
+	@touch $@
+
+$(ARCHIVE): $(CRATES)
+	@rt staticlib host >&2
+	@touch $@
+
+target/c/host: examples/host/host.c include/bonxigarth.h $(ARCHIVE)
+	@mkdir -p target/c
+	tools/x86-64 cc $(C_FLAGS) -o $@ examples/host/host.c $(ARCHIVE)
+
+target/c/guards: tests/guards.c include/bonxigarth.h $(ARCHIVE)
+	@mkdir -p target/c
+	tools/x86-64 cc $(C_FLAGS) -o $@ tests/guards.c $(ARCHIVE)
 
 fmt:
 	rt fmt

@@ -2,6 +2,7 @@
 
 pub mod damage;
 pub mod exhaustive;
+pub mod limits;
 pub mod sheets;
 #[cfg(feature = "ours")]
 pub mod sparse;

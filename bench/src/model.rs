@@ -5,20 +5,20 @@ pub mod arithmetic;
 pub mod bounds;
 pub mod geometry;
 mod grid;
-#[cfg(feature = "ours")]
 mod lent;
 mod positions;
 mod reader;
+mod steps;
 #[cfg(test)]
 mod tests;
 
 use oracle::sheet::{Packet, Reports, Sheet};
 
 use geometry::Tile;
-#[cfg(feature = "ours")]
 pub use lent::Lent;
-pub use positions::{ranges, Points};
+pub use positions::{ranges, Points, Position};
 pub use reader::read;
+pub use steps::{Cursor, Place, Step, Steps};
 
 const MOST_MARKS: u128 = 65_536;
 
@@ -71,11 +71,11 @@ fn walk(sheet: Sheet, tile: &Tile, points: Points) -> Answer {
     let mut marks = vec![0; tile.marks_needed() as usize];
     let mut packets = Vec::new();
     for range in ranges(&sheet, tile) {
-        positions::each(tile, &range, points, |packet| {
-            let mark = &mut marks[tile.mark_of(packet)];
+        positions::each(tile, &range, points, |position| {
+            let mark = &mut marks[tile.mark_of(position.packet)];
             if *mark == 0 {
                 *mark = 1;
-                packets.push(packet);
+                packets.push(position.packet);
             }
         });
     }

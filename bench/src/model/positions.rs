@@ -15,6 +15,14 @@ pub enum Points {
     Candidates,
 }
 
+/// A packet, and the point of the tile where it is met (0 in orders 0 and 1).
+#[derive(Clone, Copy, Debug, PartialEq)]
+pub struct Position {
+    pub packet: Packet,
+    pub x: u32,
+    pub y: u32,
+}
+
 /// The progressions with their ends set; none of them has layers beyond the tile's.
 pub fn ranges(sheet: &Sheet, tile: &Tile) -> Vec<Range> {
     match &sheet.progressions {
@@ -33,7 +41,7 @@ pub fn ranges(sheet: &Sheet, tile: &Tile) -> Vec<Range> {
 }
 
 /// Gives each position of a progression to `visit`, in order.
-pub fn each(tile: &Tile, range: &Range, points: Points, mut visit: impl FnMut(Packet)) {
+pub fn each(tile: &Tile, range: &Range, points: Points, mut visit: impl FnMut(Position)) {
     let components = tile.components.len() as u32;
     if range.compno0 >= components || range.compno1 > components || tile.largest_precincts() == 0 {
         return;
@@ -48,7 +56,7 @@ pub fn each(tile: &Tile, range: &Range, points: Points, mut visit: impl FnMut(Pa
                 for r in resolutions.clone() {
                     for c in components.clone() {
                         for k in 0..precincts(tile, r, c) {
-                            visit([l, r, c, k]);
+                            visit(at([l, r, c, k], 0, 0));
                         }
                     }
                 }
@@ -59,7 +67,7 @@ pub fn each(tile: &Tile, range: &Range, points: Points, mut visit: impl FnMut(Pa
                 for l in layers.clone() {
                     for c in components.clone() {
                         for k in 0..precincts(tile, r, c) {
-                            visit([l, r, c, k]);
+                            visit(at([l, r, c, k], 0, 0));
                         }
                     }
                 }
@@ -72,7 +80,7 @@ pub fn each(tile: &Tile, range: &Range, points: Points, mut visit: impl FnMut(Pa
                     for x in columns {
                         for c in components.clone() {
                             if let Some(k) = met(tile, r, c, *x, *y) {
-                                layers.clone().for_each(|l| visit([l, r, c, k]));
+                                layers.clone().for_each(|l| visit(at([l, r, c, k], *x, *y)));
                             }
                         }
                     }
@@ -85,7 +93,7 @@ pub fn each(tile: &Tile, range: &Range, points: Points, mut visit: impl FnMut(Pa
                     for c in components.clone() {
                         for r in resolutions.clone() {
                             if let Some(k) = met(tile, r, c, *x, *y) {
-                                layers.clone().for_each(|l| visit([l, r, c, k]));
+                                layers.clone().for_each(|l| visit(at([l, r, c, k], *x, *y)));
                             }
                         }
                     }
@@ -99,7 +107,7 @@ pub fn each(tile: &Tile, range: &Range, points: Points, mut visit: impl FnMut(Pa
                     for x in columns {
                         for r in resolutions.clone() {
                             if let Some(k) = met(tile, r, c, *x, *y) {
-                                layers.clone().for_each(|l| visit([l, r, c, k]));
+                                layers.clone().for_each(|l| visit(at([l, r, c, k], *x, *y)));
                             }
                         }
                     }
@@ -108,6 +116,10 @@ pub fn each(tile: &Tile, range: &Range, points: Points, mut visit: impl FnMut(Pa
         }
         _ => {}
     }
+}
+
+fn at(packet: Packet, x: u64, y: u64) -> Position {
+    Position { packet, x: x as u32, y: y as u32 }
 }
 
 /// The resolution, if the component has it and it has precincts.

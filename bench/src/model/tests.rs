@@ -1,6 +1,6 @@
 //! 01's sheets A and P-a to P-l, and B7's slow ones, through the model.
 
-use super::{run, Answer, Points};
+use super::{read, run, Answer, Cursor, Place, Points, Position, Step, Steps};
 use crate::commands::show::from_words;
 
 const A: &str = "1 0 0 64 32 2 1 1, 2 1 1 2, 3 4 4, 3 5 5";
@@ -103,4 +103,67 @@ fn the_first_bad_record_decides() {
     assert_eq!(refused("1 0 0 1 1 1 1 2, 2 1 1 1, 3, 4, 5"), -2);
     assert_eq!(refused("1 0 0 1 1 1 1 33, 2 1 1 1, 3, 5"), -3);
     assert_eq!(refused("1 0 0 65536 65536 1 1 1, 2 1 1 1, 3, 5"), -5);
+}
+
+/// Every packet that steps find, from the fresh cursor of each progression to its 0, in turn.
+fn stepped(words: &str) -> Vec<Position> {
+    let steps = Steps::of(read(&from_words(words).unwrap()).unwrap()).unwrap();
+    let mut marks = vec![0; steps.marks_needed()];
+    let mut found = Vec::new();
+    for progression in 0..steps.positions.len() as u32 {
+        let mut cursor = Cursor { progression, place: Place::Fresh };
+        while let Step::Packet(position) = steps.step(&marks, cursor) {
+            marks[steps.mark_of(position)] = 1;
+            found.push(position);
+            cursor.place = Place::At(position);
+        }
+    }
+    found
+}
+
+#[test]
+fn steps_list_what_the_run_lists() {
+    for progressions in ["5 0", "5 1", "5 2", "5 3", "5 4", "4 0 0 0 1 2 1, 4 2 0 0 2 2 1"] {
+        let packets: Vec<_> = stepped(&a_with(progressions)).iter().map(|position| position.packet).collect();
+        assert_eq!(packets, listed(&a_with(progressions)));
+    }
+}
+
+#[test]
+fn positions_have_the_point_where_they_are_met() {
+    let columns = |prg: u32| format!("1 5 0 40 16 1 1 1, 2 1 1 1, 3 4 4, 5 {prg}");
+    let met =
+        |prg| stepped(&columns(prg)).iter().map(|position| (position.x, position.y)).collect::<Vec<_>>();
+    assert_eq!(met(2), [(5, 0), (16, 0), (32, 0)]);
+    assert_eq!(met(0), [(0, 0); 3]);
+}
+
+#[test]
+fn a_step_refuses_what_is_not_sound() {
+    let steps = Steps::of(read(&from_words(&a_with("5 2")).unwrap()).unwrap()).unwrap();
+    let marks = [0; 8];
+    let at = |packet, x, y| Cursor { progression: 0, place: Place::At(Position { packet, x, y }) };
+    let step = |cursor| steps.step(&marks, cursor);
+    assert!(matches!(step(at([0, 0, 0, 1], 32, 0)), Step::Packet(_)));
+    assert_eq!(step(at([1, 1, 0, 1], 32, 0)), Step::Ended);
+    assert_eq!(step(at([0, 0, 0, 1], 33, 0)), Step::Unsound);
+    assert_eq!(step(at([2, 0, 0, 1], 32, 0)), Step::Unsound);
+    let fresh = Cursor { progression: 0, place: Place::Fresh };
+    assert_eq!(step(Cursor { progression: 1, ..fresh }), Step::Unsound);
+    assert_eq!(steps.step(&marks[1..], fresh), Step::Unsound);
+}
+
+#[test]
+fn a_table_is_sound_if_setup_writes_it() {
+    let steps = Steps::of(read(&from_words(&a_with("5 0")).unwrap()).unwrap()).unwrap();
+    let over = |changes: &[(usize, u8)]| {
+        let mut table = steps.table.clone();
+        changes.iter().for_each(|&(place, byte)| table[place] = byte);
+        steps.over(&table).is_some()
+    };
+    assert!(over(&[]) && steps.over(&steps.table[1..]).is_none());
+    // Another width, and an exponent that gives one.
+    assert!(!over(&[(11, 1)]) && !over(&[(3, 5)]));
+    // Exponents that change no count; both of them change the smallest step.
+    assert!(over(&[(7, 5)]) && over(&[(23, 6)]) && !over(&[(7, 5), (23, 6)]));
 }

@@ -1,6 +1,6 @@
 -- The two innermost levels of a walk, the same for every order by points: the precinct that is met at a point, if one is, and its layers. `o` is what is left
 -- behind them. Assumes nothing.
-use mathlib.Core.Path.{_≡_, sym, ap, _∙_}
+use mathlib.Core.Path.{_≡_, refl, sym, ap, _∙_}
 use mathlib.Core.Bool.{true, false}
 use mathlib.Core.List.{List, [], _∷_, _++_}
 use Prim.Native.Nat.{ℕ, _+_, _≤_, _<_}
@@ -14,10 +14,11 @@ use Rattle.packets.specs.Positions.{met, numberAt, layers, thePrecinct}
 use Rattle.packets.specs.declared.cursor.Position.{Position}
 use Rattle.walks.specs.Prepared.{pointOf}
 use Rattle.walks.specs.Going.{Rest}
+use Rattle.walks.specs.Innermost.{last-in}
 use Rattle.walks.specs.Turns.{met-in, met-out, layer-out, layer-found, layer-passed}
 
 -- layer l of precinct k
-abbrev packetOf : ℕ → ℕ → ℕ → ℕ → ℕ → ℕ → Position
+abbrev pub packetOf : ℕ → ℕ → ℕ → ℕ → ℕ → ℕ → Position
 packetOf r c x y k l = record { layno = l; resno = r; compno = c; precno = k; x = x; y = y }
 
 -- the layers from l on of the precinct that is met at a point
@@ -44,6 +45,10 @@ module _ (s : Sheet) (g : Range) (o : Rest) (r c x y : ℕ) where
     pub outL : g .layno1 ≤ l → leftL o r c x y k l s g ≡ o s g
     unfolding leftL
     outL h = layer-out g (packetOf r c x y k 0) l (o s g) h
+
+    pub inL : l < g .layno1 → leftL o r c x y k l s g ≡ packetOf r c x y k l ∷ leftL o r c x y k (l + 1) s g
+    unfolding leftL
+    inL h = last-in (layers g) (packetOf r c x y k 0) l (o s g) refl h
 
     -- a layer is free, or not
     module _ (marks : List ℕ) (h : l < g .layno1) where

@@ -19,8 +19,8 @@ use Rattle.packets.specs.declared.cursor.Position.{Position}
 use Rattle.walks.specs.Prepared.{field}
 use Rattle.walks.specs.Walk.{indexBy, Counted}
 use Rattle.walks.specs.Going.{Rest}
-use Rattle.walks.specs.Innermost.{last-out, last-found, last-passed}
-use Rattle.walks.specs.Marks.{fits-mark, has-mark, reads-mark}
+use Rattle.walks.specs.Innermost.{last-in, last-out, last-found, last-passed}
+use Rattle.walks.specs.Marks.{same-mark, fits-mark, has-mark, reads-mark}
 use Rattle.walks.specs.declared.walk.Walk.{Walk}
 
 -- the loops inside the two outer ones
@@ -60,6 +60,10 @@ module _ (s : Sheet) (g : Range) (o : Rest) (l r c : ℕ) where
     pub outK : precincts s c r ≤ k → leftK o l r c k s g ≡ afterC o l r c s g
     unfolding leftK
     outK h = last-out (everyPrecinct s) (placeOf l r c 0) k (afterC o l r c s g) h
+
+    pub inK : k < precincts s c r → leftK o l r c k s g ≡ placeOf l r c k ∷ leftK o l r c (k + 1) s g
+    unfolding leftK
+    inK h = last-in (everyPrecinct s) (placeOf l r c 0) k (afterC o l r c s g) refl h
 
     module _ (marks : List ℕ) (h : k < precincts s c r) where
       pub foundK : eqb (getD marks (indexOf (s .st) (placeOf l r c k)) 0) 0 ≡ true → seek (indexOf (s .st)) marks (leftK o l r c k s g) ≡ Packet (placeOf l r c k)
@@ -107,6 +111,9 @@ module _ (s : Sheet) (g : Range) (prep : List ℕ) (w : Walk) (marks : List ℕ)
 
       pub mark-there : indexBy w l r c k < length marks
       mark-there = has-mark s g w marks (counted .ranged) (counted .good) (placeOf l r c k) inside (t .layer)
+
+      pub mark-is : indexBy w l r c k ≡ indexOf (s .st) (placeOf l r c k)
+      mark-is = same-mark s g w marks (counted .ranged) (counted .good) (placeOf l r c k) inside (t .layer)
 
       pub mark-read : (i : ℕ) (f t : Bool) → i ≡ indexBy w l r c k → f ≡ eqb (getD marks i 0) 0 → f ≡ t → eqb (getD marks (indexOf (s .st) (placeOf l r c k)) 0) 0 ≡ t
       mark-read = reads-mark s g w marks (counted .ranged) (counted .good) (placeOf l r c k) inside (t .layer)

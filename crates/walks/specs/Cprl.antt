@@ -36,6 +36,10 @@ insideR s g = thePrecinct s ∷ layers g ∷ []
 abbrev pub entry : ℕ → ℕ → ℕ → ℕ → ℕ → Rest
 entry c y x r l s g = resumed (loopsOf s g cprl) ((λ p. c) ∷ (λ p. y) ∷ (λ p. x) ∷ (λ p. r) ∷ numberAt s ∷ (λ p. l) ∷ []) origin
 
+-- all of it
+abbrev pub wholly : Walk → Rest
+wholly w = entry (w .compno0) (w .ty0) (w .tx0) (w .resno0) 0
+
 -- what is left behind a turn of each loop
 unfoldable pub afterC : ℕ → Rest
 afterC c s g = later (components g) (insideC s g) origin c ++ []

@@ -4,11 +4,13 @@ pub mod Cells
 pub mod Prepare
 pub mod Filling
 pub mod FromSound
+pub mod InRow
 pub mod Nexts
 pub mod Walk
 pub mod Innermost
 pub mod Marks
 pub mod Turns
+pub mod RowLaws
 pub mod Going
 pub mod PointTurns
 pub mod AtPoint
@@ -23,5 +25,8 @@ pub mod Search
 pub mod Plan
 pub mod Stepping
 pub mod Running
+pub mod Listing
+pub mod Layers
+pub mod ByOrder
 pub mod RunAll
 pub mod Whole

@@ -10,6 +10,7 @@ use Rattle.packets.specs.Orders.{Range, lrcp}
 use Rattle.packets.specs.Positions.{loopsOf, layers, resolutions}
 use Rattle.packets.specs.declared.cursor.Position.{Position}
 use Rattle.walks.specs.Going.{Rest}
+use Rattle.walks.specs.declared.walk.Walk.{Walk}
 use Rattle.walks.specs.Counts.{inner, placeOf, leftC}
 
 -- the loops inside layers
@@ -19,6 +20,10 @@ insideL s g = resolutions g ∷ inner s g
 -- what is to be searched from a place on
 abbrev pub entry : ℕ → ℕ → ℕ → ℕ → Rest
 entry l r c k s g = resumed (loopsOf s g lrcp) ((λ p. l) ∷ (λ p. r) ∷ (λ p. c) ∷ (λ p. k) ∷ []) origin
+
+-- all of it
+abbrev pub wholly : Walk → Rest
+wholly w = entry 0 (w .resno0) (w .compno0) 0
 
 -- what is left behind a turn of each loop
 unfoldable pub afterL : ℕ → Rest

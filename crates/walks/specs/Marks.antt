@@ -20,7 +20,7 @@ abbrev pub markBy : Walk → Position → ℕ
 markBy w p = indexBy w (p .layno) (p .resno) (p .compno) (p .precno)
 
 module _ (s : Sheet) (g : Range) (w : Walk) (marks : List ℕ) (q : Ranged s g w marks) (good : Good s) (p : Position) (inside : Inside s p) (layer : p .layno < w .layno1) where
-  same-mark : markBy w p ≡ indexOf (s .st) p
+  pub same-mark : markBy w p ≡ indexOf (s .st) p
   unfolding indexBy indexOf
   same-mark = rw (q .stride-l, q .stride-r, q .stride-c)
 

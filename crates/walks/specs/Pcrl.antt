@@ -36,6 +36,10 @@ insideR s g = thePrecinct s ∷ layers g ∷ []
 abbrev pub entry : ℕ → ℕ → ℕ → ℕ → ℕ → Rest
 entry y x c r l s g = resumed (loopsOf s g pcrl) ((λ p. y) ∷ (λ p. x) ∷ (λ p. c) ∷ (λ p. r) ∷ numberAt s ∷ (λ p. l) ∷ []) origin
 
+-- all of it
+abbrev pub wholly : Walk → Rest
+wholly w = entry (w .ty0) (w .tx0) (w .compno0) (w .resno0) 0
+
 -- what is left behind a turn of each loop
 unfoldable pub afterY : ℕ → Rest
 afterY y s g = later (rows s) (insideY s g) origin y ++ []

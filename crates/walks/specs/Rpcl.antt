@@ -36,6 +36,10 @@ insideC s g = thePrecinct s ∷ layers g ∷ []
 abbrev pub entry : ℕ → ℕ → ℕ → ℕ → ℕ → Rest
 entry r y x c l s g = resumed (loopsOf s g rpcl) ((λ p. r) ∷ (λ p. y) ∷ (λ p. x) ∷ (λ p. c) ∷ numberAt s ∷ (λ p. l) ∷ []) origin
 
+-- all of it
+abbrev pub wholly : Walk → Rest
+wholly w = entry (w .resno0) (w .ty0) (w .tx0) (w .compno0) 0
+
 -- what is left behind a turn of each loop
 unfoldable pub afterR : ℕ → Rest
 afterR r s g = later (resolutions g) (insideR s g) origin r ++ []

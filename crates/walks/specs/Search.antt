@@ -69,7 +69,7 @@ pub record Startable (o : Order) (w : Walk) (p : Position) : Type 0 where
   pub point : FromPoint o w p
 
 -- the order with a number
-abbrev orderBy : ℕ → Order
+abbrev pub orderBy : ℕ → Order
 orderBy zero = lrcp
 orderBy (suc zero) = rlcp
 orderBy (suc (suc zero)) = rpcl

@@ -123,29 +123,37 @@ module _ (s : Sheet) (g : Range) (prep : List ℕ) (w : Walk) (marks : List ℕ)
         bottom = rw (← (q .ty1)) (t .bottom);
       }
 
-  -- where the mark of a packet stands that is met
-  module _ (l r c k x y : ℕ) (t : Stands w r c x y) (layer : l < w .layno1) (m : met s (pointOf r c x y) ≡ true) (e : k ≡ numberAt s (pointOf r c x y)) where
+  -- a packet that is met is one of the sheet's
+  module _ (l r c k x y : ℕ) (t : Stands w r c x y) (m : met s (pointOf r c x y) ≡ true) (e : k ≡ numberAt s (pointOf r c x y)) where
     abbrev pub packet : Position
     packet = record { layno = l; resno = r; compno = c; precno = k; x = x; y = y }
 
     component : c < s .st .components
     component = omega (arith, ready .ranged .components, ready .ranged .compno1, t .comp-to)
 
-    inside : Inside s packet
+    pub met-inside : Inside s packet
     unfolding met numberAt
-    inside =
+    met-inside =
         let a = at-point r c x y t in
         let meets : MetAt s packet = record { meets = m; number = e; left = a .left; right = a .right; top = a .top; bottom = a .bottom } in
         let small : k < precincts s c r = met-small s (ready .play .good) packet component meets in
         record { component = component; resolution = precincts-in s c r (omega arith); precinct = small }
 
+  -- where its mark stands
+  module _ (l r c k x y : ℕ) (t : Stands w r c x y) (layer : l < w .layno1) (m : met s (pointOf r c x y) ≡ true) (e : k ≡ numberAt s (pointOf r c x y)) where
+    abbrev marked : Position
+    marked = packet l r c k x y t m e
+
+    inside : Inside s marked
+    inside = met-inside l r c k x y t m e
+
     -- it is below the largest number of marks, and below the marks' number
     pub mark-fits : indexBy w l r c k < 65536
-    mark-fits = fits-mark s g w marks (ready .ranged) (ready .play .good) packet inside layer
+    mark-fits = fits-mark s g w marks (ready .ranged) (ready .play .good) marked inside layer
 
     pub mark-there : indexBy w l r c k < length marks
-    mark-there = has-mark s g w marks (ready .ranged) (ready .play .good) packet inside layer
+    mark-there = has-mark s g w marks (ready .ranged) (ready .play .good) marked inside layer
 
     -- what reading it says
-    pub mark-read : (i : ℕ) (f t : Bool) → i ≡ indexBy w l r c k → f ≡ eqb (getD marks i 0) 0 → f ≡ t → eqb (getD marks (indexOf (s .st) packet) 0) 0 ≡ t
-    mark-read = reads-mark s g w marks (ready .ranged) (ready .play .good) packet inside layer
+    pub mark-read : (i : ℕ) (f t : Bool) → i ≡ indexBy w l r c k → f ≡ eqb (getD marks i 0) 0 → f ≡ t → eqb (getD marks (indexOf (s .st) marked) 0) 0 ≡ t
+    mark-read = reads-mark s g w marks (ready .ranged) (ready .play .good) marked inside layer

@@ -41,10 +41,35 @@ pub record Ranged (s : Sheet) (g : Range) (w : Walk) (marks : List ℕ) : Type 0
   pub few : needed (s .st) ≤ 65536
   pub enough : needed (s .st) ≤ length marks
 
+-- as many other marks do as well
+pub ranged-long : (s : Sheet) (g : Range) (w : Walk) (marks other : List ℕ) → length other ≡ length marks → Ranged s g w marks → Ranged s g w other
+ranged-long s g w marks other e q =
+    record {
+      layno1 = q .layno1;
+      resno0 = q .resno0;
+      resno1 = q .resno1;
+      compno0 = q .compno0;
+      compno1 = q .compno1;
+      tx0 = q .tx0;
+      ty0 = q .ty0;
+      tx1 = q .tx1;
+      ty1 = q .ty1;
+      stride-l = q .stride-l;
+      stride-r = q .stride-r;
+      stride-c = q .stride-c;
+      layers = q .layers;
+      components = q .components;
+      few = q .few;
+      enough = rw e (q .enough);
+    }
+
 -- a walk by points: its ranges are prepared too
 pub record Ready (s : Sheet) (g : Range) (prep : List ℕ) (w : Walk) (marks : List ℕ) : Type 0 where
   pub ranged : Ranged s g w marks
   pub play : InPlay s prep (g .resno0) (g .resno1) (g .compno0) (g .compno1)
+
+pub ready-long : (s : Sheet) (g : Range) (prep : List ℕ) (w : Walk) (marks other : List ℕ) → length other ≡ length marks → Ready s g prep w marks → Ready s g prep w other
+ready-long s g prep w marks other e q = record { ranged = ranged-long s g w marks other e (q .ranged); play = q .play }
 
 abbrev pub SomeReady : List ℕ → Walk → List ℕ → Type 0
 SomeReady prep w marks = (s : Sheet) × ((g : Range) × Ready s g prep w marks)
@@ -56,6 +81,10 @@ pub record Counted (s : Sheet) (g : Range) (prep : List ℕ) (w : Walk) (marks :
   pub resolutions : g .resno1 ≤ 33
   pub components : g .compno1 ≤ 16
   pub counts : (r c : ℕ) → g .resno0 ≤ r → r < g .resno1 → g .compno0 ≤ c → c < g .compno1 → field prep r c 7 ≡ precincts s c r
+
+pub counted-long : (s : Sheet) (g : Range) (prep : List ℕ) (w : Walk) (marks other : List ℕ) → length other ≡ length marks → Counted s g prep w marks → Counted s g prep w other
+counted-long s g prep w marks other e q =
+    record { ranged = ranged-long s g w marks other e (q .ranged); good = q .good; resolutions = q .resolutions; components = q .components; counts = q .counts }
 
 abbrev pub SomeCounted : List ℕ → Walk → List ℕ → Type 0
 SomeCounted prep w marks = (s : Sheet) × ((g : Range) × Counted s g prep w marks)

@@ -4,16 +4,25 @@ ghost use Prim.Native.Nat.{_*_, _%_, _^_, _≤_};
 ghost use lib.Dec.{ltb, eqb};
 ghost use lib.ListN.{length};
 ghost use Rattle.geometry.specs.Precinct.{pick};
-ghost use Rattle.geometry.specs.Line.{boundOf};
+ghost use Rattle.laws.specs.Ceiling.{ceilDiv};
 ghost use Rattle.walks.specs.Prepare.{AxisIn, putAxis, ResolutionIn, putEntry, SomeComponent, Done, SomeComponents, AllDone};
 
-// A bound of the tile as a bound of a resolution.
-pub(crate) fn bound(t: u32, d: u32, level: u32) -> u32
-    requires { ⌜ (1 ≤ d) × (d ≤ 255) × (level ≤ 32) ⌝ }
-    ensures { λ r. ⌜ r ≡ boundOf t d level ⌝ }
+// A bound of the tile as a bound of a component.
+fn part(t: u32, d: u32) -> u32
+    requires { ⌜ (1 ≤ d) × (d ≤ 255) ⌝ }
+    ensures { λ r. ⌜ r ≡ ceilDiv t d ⌝ }
 {
-    let sample = (d as u64) << level;
-    (((t as u64) + sample - 1) / sample) as u32
+    let step = d as u64;
+    (((t as u64) + step - 1) / step) as u32
+}
+
+// A bound of a component as a bound of a resolution.
+pub(crate) fn bound(tc: u32, level: u32) -> u32
+    requires { ⌜ level ≤ 32 ⌝ }
+    ensures { λ r. ⌜ r ≡ ceilDiv tc (2 ^ level) ⌝ }
+{
+    let sample = 1u64 << level;
+    (((tc as u64) + sample - 1) >> level) as u32
 }
 
 // From a precinct to the next in points of the grid, where by is exponent and level together; modulo 2^32.
@@ -43,12 +52,20 @@ pub(crate) fn shown(wide: u32, count: u32) -> u32
     if count == 0 { 0 } else { wide }
 }
 
-// The numbers of an axis, at place at and two and four behind it.
-pub(crate) fn prepare_axis(prep: &mut [u32; 4224], at: usize, t: u32, d: u32, level: u32, pd: u32)
-    requires { ⌜ AxisIn at d level pd ⌝ }
+// The numbers of an axis, at place at and two and four behind it; the component starts at tc.
+pub(crate) fn prepare_axis(
+    prep: &mut [u32; 4224],
+    at: usize,
+    t: u32,
+    tc: u32,
+    d: u32,
+    level: u32,
+    pd: u32,
+)
+    requires { ⌜ AxisIn at d level pd × (tc ≡ ceilDiv t d) ⌝ }
     ensures { λ _. ⌜ now (prep .exit) ≡ putAxis (now (prep .entry)) at t d level pd ⌝ }
 {
-    let low = bound(t, d, level);
+    let low = bound(tc, level);
     prep[at] = step(d, pd + level);
     prep[at + 2] = start(t, low, pd);
     prep[at + 4] = low >> pd;
@@ -65,8 +82,10 @@ pub(crate) fn prepare_entry(
     dy: u32,
     tx0: u32,
     ty0: u32,
+    tcx0: u32,
+    tcy0: u32,
 )
-    requires { ⌜ ResolutionIn at (now table) from level dx dy ⌝ }
+    requires { ⌜ ResolutionIn at (now table) from level dx dy × ((tcx0 ≡ ceilDiv tx0 dx) × (tcy0 ≡ ceilDiv ty0 dy)) ⌝ }
     ensures { λ _. ⌜ now (prep .exit) ≡ putEntry (now (prep .entry)) at (now (table .entry)) from level dx dy tx0 ty0 ⌝ }
 {
     let pdx = words::word_at(table, from);
@@ -75,8 +94,8 @@ pub(crate) fn prepare_entry(
     let high = words::word_at(table, from + 12);
     let count = wide * high;
     prep[at] = shown(wide, count);
-    prepare_axis(prep, at + 1, tx0, dx, level, pdx);
-    prepare_axis(prep, at + 2, ty0, dy, level, pdy);
+    prepare_axis(prep, at + 1, tx0, tcx0, dx, level, pdx);
+    prepare_axis(prep, at + 2, ty0, tcy0, dy, level, pdy);
     prep[at + 7] = count;
 }
 
@@ -95,6 +114,8 @@ pub(crate) fn prepare_component(
     requires { ⌜ (length (now prep) ≡ 4224) × SomeComponent (now table) base c n dx dy tx0 ty0 ⌝ }
     ensures { λ _. ⌜ Done (now (table .entry)) base c n dx dy tx0 ty0 (now (prep .entry)) (now (prep .exit)) n ⌝ }
 {
+    let tcx0 = part(tx0, dx);
+    let tcy0 = part(ty0, dy);
     let mut r: u32 = 0;
     'rs: while r < n {
         let i = r as usize;
@@ -108,6 +129,8 @@ pub(crate) fn prepare_component(
             dy,
             tx0,
             ty0,
+            tcx0,
+            tcy0,
         );
         r += 1;
     }

@@ -1,6 +1,6 @@
 // The whole run: setup, then every progression in turn until it ends (01, 'The calls').
 use crate::prepare::prepare;
-use crate::run::run_all;
+use crate::run::list_all;
 ghost use mathlib.Core.Path.{_≡_};
 ghost use Rattle.packets.specs.Calls.{wholeRunOf};
 
@@ -32,5 +32,5 @@ pub fn whole_run(sheet: &[u8], table: &mut [u8], marks: &mut [u8], output: &mut 
         st.tx0,
         st.ty0,
     );
-    run_all(st, &prep, marks, output) as i32
+    list_all(st, &prep, marks, output) as i32
 }

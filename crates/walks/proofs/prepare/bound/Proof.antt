@@ -1,49 +1,37 @@
--- `bound`: a step of 8 bits shifted by 32 at most has 40 bits, and two ceilings are one (bound-law). Assumes nothing.
-use Prim.Native.Nat.{_+_, _*_, _^_, _≤_}
-use Rattle.geometry.specs.Hits.{bound-law}
+-- `bound`: a sample of 2^32 at most, so that nothing is lost. Assumes nothing.
+use mathlib.Core.Path.{_≡_}
+use Prim.Native.Nat.{ℕ, _*_, _%_, _^_, _≤_}
 use Rattle.laws.specs.Ceiling.{ceil-small}
-use mathlib.Core.Path.{sym}
-use lib.Pow.{shl-exact, shl-lt, pow-mono, pow-pos}
-use native.Mathlib.Nat.{mul-pos}
+use lib.Pow.{pow-mono, pow-pos}
 use native.Mathlib.Omega.{arith}
 use borrow.Author.Needs.{needs}
 use Rattle.walks.proofs.prepare.bound.Statement.{statement}
 use Rattle.walks.proofs.prepare.bound.Tie as tie
 
+-- the sample, as the shift makes it, and how large it is
+sample : (level : ℕ) → level ≤ 32 → 1 * 2 ^ level % 18446744073709551616 ≡ 2 ^ level
+sample level h = let m : 2 ^ level ≤ 2 ^ 32 = pow-mono {j = 32} h in omega arith
+
+small : (level : ℕ) → level ≤ 32 → 2 ^ level ≤ 4294967296
+small level h = pow-mono {j = 32} h
+
 shl-sample : tie.Need-shl-sample
 shl-sample c = search needs
 
 add-result : tie.Need-add-result
-add-result c =
-    let a = c .args in
-    let e = shl-exact {a = a .d} 8 (a .level) 64 (omega arith) (omega arith) in
-    let k = shl-lt {a = a .d} 8 (a .level) (omega arith) in
-    let m : 2 ^ (8 + a .level) ≤ 2 ^ 40 = pow-mono {j = 40} (omega arith) in
-    rw e (omega arith)
+add-result c = let a = c .args in rw (sample (a .level) (c .pre)) (omega (arith, small (a .level) (c .pre)))
 
 sub-result : tie.Need-sub-result
-sub-result c =
-    let a = c .args in
-    let e = shl-exact {a = a .d} 8 (a .level) 64 (omega arith) (omega arith) in
-    rw e (omega (arith, mul-pos (c .pre .0) (pow-pos (a .level))))
+sub-result c = let a = c .args in rw (sample (a .level) (c .pre)) (omega (arith, pow-pos (a .level)))
 
-div-result : tie.Need-div-result
-div-result c =
-    let a = c .args in
-    let e = shl-exact {a = a .d} 8 (a .level) 64 (omega arith) (omega arith) in
-    rw e (mul-pos (c .pre .0) (pow-pos (a .level)))
+shr-result : tie.Need-shr-result
+shr-result c = search needs
 
 cast-result : tie.Need-cast-result
-cast-result c =
-    let a = c .args in
-    let e = shl-exact {a = a .d} 8 (a .level) 64 (omega arith) (omega arith) in
-    rw e (omega (arith, ceil-small (a .d * 2 ^ a .level) (mul-pos (c .pre .0) (pow-pos (a .level))) (a .t)))
+cast-result c = let a = c .args in rw (sample (a .level) (c .pre)) (omega (arith, ceil-small (2 ^ a .level) (pow-pos (a .level)) (a .tc)))
 
 returns : tie.Need-returns
-returns c =
-    let a = c .args in
-    let e = shl-exact {a = a .d} 8 (a .level) 64 (omega arith) (omega arith) in
-    rw e (sym (bound-law (a .t) (a .d) (a .level) (c .pre .0)))
+returns c = let a = c .args in rw (sample (a .level) (c .pre))
 
 pub bound-spec : {M : Type 1} → statement M
-bound-spec = tie.close (tie.spec shl-sample add-result sub-result div-result cast-result returns)
+bound-spec = tie.close (tie.spec shl-sample add-result sub-result shr-result cast-result returns)

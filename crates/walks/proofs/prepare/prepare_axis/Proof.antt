@@ -1,4 +1,5 @@
 -- `prepare_axis`: the three numbers are written as in the definition. Assumes nothing.
+use Rattle.geometry.specs.Line.{boundOf}
 use Rattle.walks.specs.Prepare.{putAxis}
 use borrow.Author.Needs.{needs}
 use Rattle.walks.proofs.prepare.prepare_axis.Statement.{statement}
@@ -44,8 +45,8 @@ element-write-prep-3 : tie.Need-element-write-prep-3
 element-write-prep-3 c = search needs
 
 returns : tie.Need-returns
-unfolding putAxis
-returns c = rw (c .start .ensures, c .before .step .ensures, c .before .before .bound .ensures)
+unfolding putAxis boundOf
+returns c = rw (c .start .ensures, c .before .step .ensures, c .before .before .bound .ensures, c .before .before .before .pre .1)
 
 pub prepare-axis-spec : {M : Type 1} → statement M
 prepare-axis-spec =

@@ -27,7 +27,7 @@ word-at-requires-4 : tie.Need-word-at-requires-4
 word-at-requires-4 c κs = search needs
 
 mul-count : tie.Need-mul-count
-mul-count c = rw (c .word-at4 .ensures, c .before .word-at3 .ensures) (omega (arith, c .before .before .before .before .before .pre .few))
+mul-count c = rw (c .word-at4 .ensures, c .before .word-at3 .ensures) (omega (arith, c .before .before .before .before .before .pre .0 .few))
 
 shown-requires : tie.Need-shown-requires
 shown-requires c κs = search needs

@@ -62,7 +62,7 @@ module _ (c : tie.Else1) where
   sound = done-sound _ _ _ _ (set-up (c .before)) (bytes (c .before)) passed
 
 -- and the numbers prepared
-module _ (c : tie.After-run-all-arg2) where
+module _ (c : tie.After-list-all-arg2) where
   prepared : Arranged (st (c .before .before .before .before .before .before .before .before .before .before .before .before .before .before)) (table-left (c .before .before .before .before .before .before .before .before .before .before .before .before .before .before)) (c .before .before .before .prepare .last .0) (marks-left (c .before .before .before .before .before .before .before .before .before .before .before .before .before .before))
   prepared = arranged _ _ _ _ _ (sound (c .before .before .before .before .before .before .before .before .before .before .before .before .before)) (c .before .before .before .prepare .ensures) (cleared 4224)
 
@@ -84,13 +84,13 @@ returns c = let e = toZ-ofZ w32 (c .before .number .result) (search needs) in rw
 prepare-requires : tie.Need-prepare-requires
 prepare-requires c κs = (refl, (sheetAt _ _, sound-components _ _ _ (sound (c .before .before .before .before .before .before .before .before .before))))
 
-run-all-requires : tie.Need-run-all-requires
-run-all-requires c κs = (table-left (c .before .before .before .before .before .before .before .before .before .before .before .before .before .before), prepared c)
+list-all-requires : tie.Need-list-all-requires
+list-all-requires c κs = (table-left (c .before .before .before .before .before .before .before .before .before .before .before .before .before .before), prepared c)
 
 cast-result : tie.Need-cast-result
 cast-result c =
     let few = count-few _ _ _ _ (prepared (c .before .before .before .before .before)) (output (c .before .before .before .before .before .before .before .before .before .before .before .before .before .before .before .before .before .before .before)) (st (c .before .before .before .before .before .before .before .before .before .before .before .before .before .before .before .before .before .before .before) .progressions) in
-    let e = ap (λ (t : Total). t .count) (c .before .before .before .before .run-all .ensures _ (prepared (c .before .before .before .before .before))) in
+    let e = ap (λ (t : Total). t .count) (c .before .before .before .before .list-all .ensures _ (prepared (c .before .before .before .before .before))) in
     record { sfits = omega (arith, few, e) }
 
 same-length-3 : tie.Need-same-length-3
@@ -104,8 +104,8 @@ same-length-5 c = search needs
 
 returns-2 : tie.Need-returns-2
 returns-2 c =
-    let e = toZ-ofZ w32 (pos (c .before .before .before .before .run-all .result)) (cast-result c) in
-    rw e (run-left _ _ _ _ (set-up (c .before .before .before .before .before .before .before .before .before .before .before .before .before .before .before .before .before .before .before)) (bytes (c .before .before .before .before .before .before .before .before .before .before .before .before .before .before .before .before .before .before .before)) (passed (c .before .before .before .before .before .before .before .before .before .before .before .before .before .before .before .before .before .before)) (prepared (c .before .before .before .before .before)) (c .before .before .before .before .run-all .ensures))
+    let e = toZ-ofZ w32 (pos (c .before .before .before .before .list-all .result)) (cast-result c) in
+    rw e (run-left _ _ _ _ (set-up (c .before .before .before .before .before .before .before .before .before .before .before .before .before .before .before .before .before .before .before)) (bytes (c .before .before .before .before .before .before .before .before .before .before .before .before .before .before .before .before .before .before .before)) (passed (c .before .before .before .before .before .before .before .before .before .before .before .before .before .before .before .before .before .before)) (prepared (c .before .before .before .before .before)) (c .before .before .before .before .list-all .ensures))
 
 pub whole-run-spec : {M : Type 1} → statement M
 whole-run-spec =
@@ -117,7 +117,7 @@ whole-run-spec =
     same-length-2
     returns
     prepare-requires
-    run-all-requires
+    list-all-requires
     cast-result
     same-length-3
     same-length-4

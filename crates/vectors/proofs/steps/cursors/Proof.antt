@@ -1,0 +1,58 @@
+-- `steps::cursors`: entry after entry. Assumes nothing.
+use Prim.Native.Nat.{_≤_, _-_}
+use borrow.Author.Needs.{needs}
+use Rattle.vectors.proofs.steps.cursors.Statement.{statement}
+use Rattle.vectors.proofs.steps.cursors.Tie as tie
+
+abbrev Inv-loop : tie.InvT-loop
+Inv-loop rest list count tally₀ i₀ tally i = i ≤ count
+
+abbrev μ-loop : tie.MeasureT-loop
+μ-loop rest list count tally₀ i₀ tally i = count - i
+
+cursors-of-requires : tie.Need-cursors-of-requires Inv-loop μ-loop
+cursors-of-requires c κs = search needs
+
+loop-holds : tie.Need-loop-holds Inv-loop μ-loop
+loop-holds c = search needs
+
+mul-part : tie.Need-mul-part Inv-loop μ-loop
+mul-part c = search needs
+
+part-requires : tie.Need-part-requires Inv-loop μ-loop
+part-requires c κs = search needs
+
+from-cursor-requires : tie.Need-from-cursor-requires Inv-loop μ-loop
+from-cursor-requires c κs = search needs
+
+with-requires : tie.Need-with-requires Inv-loop μ-loop
+with-requires c κs = search needs
+
+add-i : tie.Need-add-i Inv-loop μ-loop
+add-i c = search needs
+
+loop-less : tie.Need-loop-less Inv-loop μ-loop
+loop-less c = search needs
+
+loop-again : tie.Need-loop-again Inv-loop μ-loop
+loop-again c = search needs
+
+returns : tie.Need-returns Inv-loop μ-loop
+returns c = search needs
+
+pub cursors-spec : {M : Type 1} → statement M
+cursors-spec =
+    tie.close
+    (tie.spec
+    Inv-loop
+    μ-loop
+    cursors-of-requires
+    loop-holds
+    mul-part
+    part-requires
+    from-cursor-requires
+    with-requires
+    add-i
+    loop-less
+    loop-again
+    returns)

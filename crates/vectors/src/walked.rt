@@ -1,0 +1,215 @@
+// The steps of an accepted sheet: every progression in turn, each up to its 0 and once more, lists the stored packets in order and sets their marks.
+use crate::bytes;
+use crate::bytes::word;
+use crate::calls;
+use crate::lent;
+use crate::lent::FILL;
+use crate::lent::GUARD;
+use crate::lent::MARKS;
+use crate::lent::TABLE;
+use crate::same;
+use geometry::math::wrapping_mul;
+use packets::answer::Opened;
+use packets::answer::Stepped;
+use packets::cursor::Cursor;
+use packets::cursor::Place;
+use packets::cursor::Position;
+use packets::state::State;
+use std::num::wrapping_add_u32;
+
+// Packets listed so far, whether all were the stored ones, and where the progression stands.
+struct Listing {
+    count: u32,
+    right: bool,
+    going: bool,
+    cursor: Cursor,
+}
+
+// No stored sheet has more packets.
+const MOST: u32 = 65_536;
+
+// The index of a packet's mark in its buffer, by document 01's strides.
+pub(crate) fn mark_of(st: State, layno: u32, resno: u32, compno: u32, precno: u32) -> usize {
+    let resolution = wrapping_mul(st.components, st.max_prec);
+    let layer = wrapping_mul(st.max_res, resolution);
+    let in_layer = wrapping_add_u32(wrapping_mul(layno, layer), wrapping_mul(resno, resolution));
+    let in_component = wrapping_add_u32(wrapping_mul(compno, st.max_prec), precno);
+    GUARD + (wrapping_add_u32(in_layer, in_component) as usize)
+}
+
+// Whether stored packet n is this one.
+fn listed(packets: &[u8], n: u32, p: Position) -> bool {
+    let one = bytes::part(packets, 16 * (n as usize), 16);
+    (one.len() == 16)
+        & (word(one, 0) == p.layno)
+        & (word(one, 1) == p.resno)
+        & (word(one, 2) == p.compno)
+        & (word(one, 3) == p.precno)
+}
+
+impl Listing {
+    fn packet(self, right: bool, moved: Cursor) -> Self {
+        let n = self.count;
+        Listing {
+            count: if n < MOST { n + 1 } else { n },
+            right: self.right & right,
+            going: true,
+            cursor: moved,
+        }
+    }
+
+    fn ended(self, right: bool, last: Cursor) -> Self {
+        Listing {
+            count: self.count,
+            right: self.right & right,
+            going: false,
+            cursor: last,
+        }
+    }
+}
+
+// One step more.
+fn turn(
+    st: State,
+    table: &[u8],
+    marks: &mut [u8],
+    needed: usize,
+    packets: &[u8],
+    so_far: Listing,
+) -> Listing {
+    let cursor = so_far.cursor;
+    let k = cursor.progression;
+    match lent::step(st, table, marks, needed, cursor) {
+        Stepped::Packet(p, moved) => {
+            let next = Cursor {
+                progression: k,
+                place: Place::At(p),
+            };
+            let right = listed(packets, so_far.count, p) & same::cursor(moved, next);
+            so_far.packet(right, moved)
+        }
+        Stepped::Ended(last) => so_far.ended(same::cursor(last, Cursor::ended(k)), last),
+        Stepped::Unsound(last) => so_far.ended(false, last),
+    }
+}
+
+// Steps up to the first 0.
+fn to_end(
+    st: State,
+    table: &[u8],
+    marks: &mut [u8],
+    needed: usize,
+    packets: &[u8],
+    so_far: Listing,
+) -> Listing {
+    let mut listing = so_far;
+    let mut turns: u32 = 0;
+    while turns < MOST {
+        if !listing.going {
+            return listing;
+        }
+        listing = turn(st, table, marks, needed, packets, listing);
+        turns += 1;
+    }
+    listing
+}
+
+// Progression k, opened, to its 0, and one step behind it, which is 0 again.
+fn progression(
+    st: State,
+    table: &[u8],
+    marks: &mut [u8],
+    needed: usize,
+    packets: &[u8],
+    k: u32,
+    so_far: Listing,
+) -> Listing {
+    match lent::open(st, table, marks, needed, k) {
+        Opened::Cursor(c) => {
+            let opened = Listing {
+                count: so_far.count,
+                right: so_far.right & same::cursor(c, Cursor::fresh(k)),
+                going: true,
+                cursor: c,
+            };
+            let end = to_end(st, table, marks, needed, packets, opened);
+            let again = turn(st, table, marks, needed, packets, end);
+            let last = again.cursor;
+            again.ended(!again.going, last)
+        }
+        Opened::Unsound => so_far.ended(false, Cursor::ended(k)),
+        Opened::NoSuch => so_far.ended(false, Cursor::ended(k)),
+    }
+}
+
+fn all(st: State, table: &[u8], marks: &mut [u8], needed: usize, packets: &[u8]) -> Listing {
+    let progressions = st.progressions;
+    let mut listing = Listing {
+        count: 0,
+        right: true,
+        going: true,
+        cursor: Cursor::fresh(0),
+    };
+    let mut k: u32 = 0;
+    while k < progressions {
+        listing = progression(st, table, marks, needed, packets, k, listing);
+        k += 1;
+    }
+    listing
+}
+
+// Opening one progression more than there are: -11.
+fn no_such(st: State, table: &[u8], marks: &[u8], needed: usize) -> bool {
+    match lent::open(st, table, marks, needed, st.progressions) {
+        Opened::NoSuch => true,
+        Opened::Cursor(_) => false,
+        Opened::Unsound => false,
+    }
+}
+
+// Sets the marks of the stored packets.
+fn mark_listed(st: State, packets: &[u8], marks: &mut [u8]) {
+    let count = packets.len() / 16;
+    let mut n = 0;
+    while n < count {
+        let one = bytes::part(packets, 16 * n, 16);
+        let index = mark_of(st, word(one, 0), word(one, 1), word(one, 2), word(one, 3));
+        bytes::put(marks, index, 1);
+        n += 1;
+    }
+}
+
+// The marks of a sheet as they are left when the stored packets are listed, in a filled buffer.
+pub(crate) fn leave(
+    sheet: &[u8],
+    table_bytes: usize,
+    packets: &[u8],
+    needed: usize,
+    marks: &mut [u8],
+) {
+    let mut table = [FILL; TABLE];
+    let up = lent::setup(sheet, &mut table, table_bytes, marks, needed);
+    let st = up.state;
+    mark_listed(st, packets, marks);
+}
+
+pub(crate) fn right(sheet: &[u8], table_bytes: usize, packets: &[u8], needed: usize) -> bool {
+    let mut table = [FILL; TABLE];
+    let mut marks = [FILL; MARKS];
+    let mut expected = [FILL; MARKS];
+    leave(sheet, table_bytes, packets, needed, &mut expected);
+    let up = lent::setup(sheet, &mut table, table_bytes, &mut marks, needed);
+    let st = up.state;
+    let listing = all(
+        st,
+        lent::inside(&table, table_bytes),
+        &mut marks,
+        needed,
+        packets,
+    );
+    calls::says(up, 0)
+        & listing.right
+        & (16 * (listing.count as usize) == packets.len())
+        & bytes::same(&marks, &expected)
+        & no_such(st, lent::inside(&table, table_bytes), &marks, needed)
+}

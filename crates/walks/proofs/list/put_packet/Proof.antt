@@ -1,0 +1,52 @@
+-- `put_packet`: the four words, one after the other. Assumes nothing.
+use borrow.Author.Needs.{needs}
+use denote.Ref.{now}
+use Prim.Native.Nat.{_*_}
+use Rattle.walks.specs.Records.{packet-put}
+use Rattle.walks.proofs.list.put_packet.Statement.{statement}
+use Rattle.walks.proofs.list.put_packet.Tie as tie
+
+mul-at : tie.Need-mul-at
+mul-at c = search needs
+
+put-word-requires : tie.Need-put-word-requires
+put-word-requires c κs = search needs
+
+add-put-word : tie.Need-add-put-word
+add-put-word c = search needs
+
+put-word-requires-2 : tie.Need-put-word-requires-2
+put-word-requires-2 c κs = search needs
+
+add-put-word-2 : tie.Need-add-put-word-2
+add-put-word-2 c = search needs
+
+put-word-requires-3 : tie.Need-put-word-requires-3
+put-word-requires-3 c κs = search needs
+
+add-put-word-3 : tie.Need-add-put-word-3
+add-put-word-3 c = search needs
+
+put-word-requires-4 : tie.Need-put-word-requires-4
+put-word-requires-4 c κs = search needs
+
+same-length : tie.Need-same-length
+same-length c = search needs
+
+returns : tie.Need-returns
+returns c = let a = c .before .before .before .before .before .before .before .before .before .before .before .before .before .before .before .before .before .args in packet-put (now (a .output)) (16 * a .n) (a .p) (c .before .before .before .before .before .before .before .before .before .before .before .before .before .before .put-word .ensures) (c .before .before .before .before .before .before .before .before .before .before .put-word2 .ensures) (c .before .before .before .before .before .before .put-word3 .ensures) (c .before .before .put-word4 .ensures)
+
+pub put-packet-spec : {M : Type 1} → statement M
+put-packet-spec =
+    tie.close
+    (tie.spec
+    mul-at
+    put-word-requires
+    add-put-word
+    put-word-requires-2
+    add-put-word-2
+    put-word-requires-3
+    add-put-word-3
+    put-word-requires-4
+    same-length
+    returns)

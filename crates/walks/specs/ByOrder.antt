@@ -1,0 +1,81 @@
+-- A planned progression is listed by its order: what that order's listing asks for, and that it lists the progression's positions. Assumes nothing.
+use mathlib.Core.Path.{_≡_, sym, ap, _∙_, subst}
+use mathlib.Core.Bool.{true, false}
+use mathlib.Core.List.{List, []}
+use native.Mathlib.Omega.{arith}
+use Prim.Native.Nat.{ℕ, _+_, _≤_, _<_}
+use lib.ListN.{length}
+use lib.Dec.{eqb}
+use Rattle.laws.specs.Cases.{split}
+use Rattle.laws.specs.Runs.{unlisted}
+use Rattle.packets.specs.Tile.{Sheet, indexOf}
+use Rattle.packets.specs.Orders.{Order, lrcp, rlcp, rpcl, pcrl, cprl, other, Range, rangeOf, orderOf, componentsGood}
+use Rattle.packets.specs.Table.{sheetAt}
+use Rattle.packets.specs.Grid.{changeOf}
+use Rattle.packets.specs.Sound.{positionsFor}
+use Rattle.packets.specs.declared.state.State.{State}
+use Rattle.packets.specs.declared.state.Progression.{Progression}
+use Rattle.packets.specs.declared.cursor.Position.{Position}
+use Rattle.sheets.specs.Ranges.{orderNumber}
+use Rattle.walks.specs.Walk.{Counted, Ready}
+use Rattle.walks.specs.Search.{leftFrom, firstOf, orderBy, known-by, points-by, Ordered, from-first}
+use Rattle.walks.specs.Plan.{orderIn, Planned, planned-ordered, planned-none}
+use Rattle.walks.specs.Running.{Total, totalOf, total-none}
+use Rattle.walks.specs.declared.plan.Plan.{Plan}
+
+-- an order's number is at most 5
+number-most : (o : Order) → orderNumber o ≤ 5
+number-most lrcp = omega arith
+number-most rlcp = omega arith
+number-most rpcl = omega arith
+number-most pcrl = omega arith
+number-most cprl = omega arith
+number-most other = omega arith
+
+order-most : (st : State) (q : Progression) → orderIn st q ≤ 5
+unfolding orderIn
+order-most st q =
+    split (eqb (st .«max_prec») 0)
+    (λ z. rw z (omega arith))
+    (λ z. split (componentsGood st (rangeOf st q)) (λ t. rw (z, t) (number-most (orderOf (q .prg)))) (λ t. rw (z, t) (omega arith)))
+
+module _ (st : State) (table : List ℕ) (k : ℕ) (prep : List ℕ) (plan : Plan) (marks : List ℕ) (d : Planned st table k prep plan marks) where
+  abbrev pub sheet : Sheet
+  sheet = sheetAt st table
+
+  abbrev pub range : Range
+  range = rangeOf st (changeOf st k)
+
+  -- where the plan has no order there is nothing to list
+  pub none-listed : 5 ≤ plan .order → (output : List ℕ) (n : ℕ)
+      → _≡_ {A = Total} (record { count = n; marks = marks; output = output }) (totalOf (indexOf st) marks output n (positionsFor st table k))
+  none-listed h output n =
+      let five : plan .order ≡ 5 = omega (arith, d .order, order-most st (changeOf st k)) in
+      sym (ap (totalOf (indexOf st) marks output n) (planned-none st table k prep plan marks d five) ∙ total-none (indexOf st) marks output n)
+
+  -- the plan's order is m
+  module _ (m : ℕ) (e : plan .order ≡ m) (h : m < 5) where
+    abbrev o : Order
+    o = orderOf (changeOf st k .prg)
+
+    ordered : Ordered sheet range prep (plan .walk) marks (plan .order) o
+    ordered = planned-ordered st table k prep plan marks d (λ z. omega arith)
+
+    pub by-counts : Counted sheet range prep (plan .walk) marks
+    by-counts = ordered .counted
+
+    pub by-points : 2 ≤ m → Ready sheet range prep (plan .walk) marks
+    by-points l = ordered .ready (points-by o _ (ordered .number) (omega arith) (omega arith))
+
+    whole-of : leftFrom sheet range (orderBy m) (firstOf (plan .walk)) ≡ positionsFor st table k
+    whole-of =
+        ap (λ (o : Order). leftFrom sheet range o (firstOf (plan .walk))) (sym (known-by o _ m (ordered .number) e))
+        ∙ from-first sheet range prep (plan .walk) marks (plan .order) o ordered
+
+    pub few-of : (n : ℕ) → n + length (unlisted (indexOf st) marks (positionsFor st table k)) ≤ 65536
+        → n + length (unlisted (indexOf st) marks (leftFrom sheet range (orderBy m) (firstOf (plan .walk)))) ≤ 65536
+    few-of n f = subst (λ (l : List Position). n + length (unlisted (indexOf st) marks l) ≤ 65536) (sym whole-of) f
+
+    pub listed-of : (output : List ℕ) (n : ℕ) {t : Total} → t ≡ totalOf (indexOf st) marks output n (leftFrom sheet range (orderBy m) (firstOf (plan .walk)))
+        → t ≡ totalOf (indexOf st) marks output n (positionsFor st table k)
+    listed-of output n f = f ∙ ap (totalOf (indexOf st) marks output n) whole-of

@@ -1,0 +1,43 @@
+-- A row of a tile: the precincts that it meets, by component and resolution.
+use Prim.Native.Nat.{ℕ, _+_, _*_, _≤_, _<_}
+use mathlib.Core.Path.{_≡_}
+use mathlib.Core.List.{List}
+use lib.ListN.{getD}
+use Rattle.geometry.specs.Precinct.{pick}
+use Rattle.geometry.specs.Line.{columnOf}
+use Rattle.packets.specs.Tile.{Sheet, lineY, width}
+use Rattle.packets.specs.InPlay.{playX}
+use Rattle.walks.specs.Prepared.{InPlay, AtPoint, atRow}
+
+-- one more than the number of the row's first precinct; 0 where it meets none
+unfoldable pub rowOf : Sheet → ℕ → ℕ → ℕ → ℕ
+rowOf s r c y = pick (playX s (atRow y) c r) (columnOf (lineY s c r) y * width s c r + 1) 0
+
+-- resolutions r0 to r1 of components c0 to c1, in a row of the tile
+pub record AtRow (s : Sheet) (prep : List ℕ) (r0 r1 c0 c1 y : ℕ) : Type 0 where
+  pub play : InPlay s prep r0 r1 c0 c1
+  pub top : s .st .ty0 ≤ y
+  pub bottom : y < s .st .ty1
+
+abbrev pub SomeRow : List ℕ → ℕ → ℕ → ℕ → ℕ → ℕ → Type 0
+SomeRow prep r0 r1 c0 c1 y = (s : Sheet) × AtRow s prep r0 r1 c0 c1 y
+
+-- what is noted of a row
+abbrev pub Row : Sheet → List ℕ → ℕ → ℕ → ℕ → ℕ → ℕ → Type 0
+Row s row r0 r1 c0 c1 y = (r c : ℕ) → r0 ≤ r → r < r1 → c0 ≤ c → c < c1 → getD row (16 * r + c) 0 ≡ rowOf s r c y
+
+-- a point of a row that is noted
+pub record RowPoint (s : Sheet) (prep row : List ℕ) (r c x y : ℕ) : Type 0 where
+  pub point : AtPoint s prep r c x y
+  pub noted : getD row (16 * r + c) 0 ≡ rowOf s r c y
+
+abbrev pub SomeRowPoint : List ℕ → List ℕ → ℕ → ℕ → ℕ → Type 0
+SomeRowPoint prep row r c x = (s : Sheet) × ((y : ℕ) × RowPoint s prep row r c x y)
+
+-- a row that is noted
+pub record RowPlay (s : Sheet) (prep row : List ℕ) (r0 r1 c0 c1 y : ℕ) : Type 0 where
+  pub at : AtRow s prep r0 r1 c0 c1 y
+  pub noted : Row s row r0 r1 c0 c1 y
+
+abbrev pub SomeRowPlay : List ℕ → List ℕ → ℕ → ℕ → ℕ → ℕ → Type 0
+SomeRowPlay prep row r0 r1 c0 c1 = (s : Sheet) × ((y : ℕ) × RowPlay s prep row r0 r1 c0 c1 y)

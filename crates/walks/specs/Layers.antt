@@ -1,0 +1,82 @@
+-- The layers of a precinct that is met at a point, listed one after the other. Assumes nothing.
+use mathlib.Core.Path.{_≡_, sym, _∙_}
+use mathlib.Core.List.{List, []}
+use Prim.Native.Nat.{ℕ, _+_, _*_, _≤_, _<_}
+use native.Mathlib.Omega.{arith}
+use lib.ListN.{length, getD}
+use Rattle.laws.specs.Runs.{unlisted}
+use Rattle.packets.specs.Tile.{Sheet, indexOf}
+use Rattle.packets.specs.Orders.{Range}
+use Rattle.packets.specs.Good.{Good}
+use Rattle.packets.specs.Inside.{Inside}
+use Rattle.packets.specs.declared.cursor.Position.{Position}
+use Rattle.walks.specs.Prepared.{cellOf}
+use Rattle.walks.specs.InRow.{rowOf, RowPoint}
+use Rattle.walks.specs.Turns.{Stands, at-point, met-inside, cell-met, cell-missed}
+use Rattle.walks.specs.declared.cell.Cell.{Cell}
+use Rattle.walks.specs.declared.cell.Cell.the-variants.{At, Nothing}
+use Rattle.walks.specs.Walk.{Ranged, Ready, ranged-long}
+use Rattle.walks.specs.Marks.{markBy, same-mark, fits-mark, has-mark}
+use Rattle.walks.specs.Going.{Rest}
+use Rattle.walks.specs.AtPoint.{packetOf, leftK, leftL, meets, misses}
+use Rattle.walks.specs.declared.walk.Walk.{Walk}
+
+-- precinct k of component c at resolution r is one of the sheet's
+pub record Layered (s : Sheet) (g : Range) (w : Walk) (marks : List ℕ) (r c x y k : ℕ) : Type 0 where
+  pub ranged : Ranged s g w marks
+  pub good : Good s
+  pub inside : Inside s (packetOf r c x y k 0)
+
+-- .. of some sheet, and its packets are few, whatever comes behind them
+abbrev pub SomeLayers : Walk → List ℕ → ℕ → ℕ → ℕ → ℕ → ℕ → ℕ → Type 0
+SomeLayers w marks r c x y k n =
+    (s : Sheet) × ((g : Range) × ((o : Rest) × Layered s g w marks r c x y k × (n + length (unlisted (indexOf (s .st)) marks (leftL o r c x y k 0 s g)) ≤ 65536)))
+
+pub layered-long : (s : Sheet) (g : Range) (w : Walk) (marks other : List ℕ) (r c x y k : ℕ) → length other ≡ length marks
+    → Layered s g w marks r c x y k → Layered s g w other r c x y k
+layered-long s g w marks other r c x y k e d = record { ranged = ranged-long s g w marks other e (d .ranged); good = d .good; inside = d .inside }
+
+-- the mark of one of its layers
+module _ (s : Sheet) (g : Range) (w : Walk) (marks : List ℕ) (r c x y k : ℕ) (d : Layered s g w marks r c x y k) (l : ℕ) (h : l < w .layno1) where
+  inside : Inside s (packetOf r c x y k l)
+  inside = let i = d .inside in record { component = i .component; resolution = i .resolution; precinct = i .precinct }
+
+  pub layer-is : markBy w (packetOf r c x y k l) ≡ indexOf (s .st) (packetOf r c x y k l)
+  layer-is = same-mark s g w marks (d .ranged) (d .good) (packetOf r c x y k l) inside h
+
+  pub layer-fits : markBy w (packetOf r c x y k l) < 65536
+  layer-fits = fits-mark s g w marks (d .ranged) (d .good) (packetOf r c x y k l) inside h
+
+  pub layer-there : markBy w (packetOf r c x y k l) < length marks
+  layer-there = has-mark s g w marks (d .ranged) (d .good) (packetOf r c x y k l) inside h
+
+-- a walk that is ready stands at a point, in a row that is noted
+pub record Celled (s : Sheet) (g : Range) (prep row : List ℕ) (w : Walk) (marks : List ℕ) (r c x y : ℕ) : Type 0 where
+  pub ready : Ready s g prep w marks
+  pub stands : Stands w r c x y
+  pub noted : getD row (16 * r + c) 0 ≡ rowOf s r c y
+
+abbrev pub SomeCell : List ℕ → List ℕ → Walk → List ℕ → ℕ → ℕ → ℕ → ℕ → ℕ → Type 0
+SomeCell prep row w marks r c x y n =
+    (s : Sheet) × ((g : Range) × ((o : Rest) × Celled s g prep row w marks r c x y × (n + length (unlisted (indexOf (s .st)) marks (leftK o r c x y 0 s g)) ≤ 65536)))
+
+module _ (s : Sheet) (g : Range) (prep row : List ℕ) (w : Walk) (marks : List ℕ) (r c x y : ℕ) (d : Celled s g prep row w marks r c x y) where
+  pub row-point : RowPoint s prep row r c x y
+  row-point = record { point = at-point s g prep w marks (d .ready) r c x y (d .stands); noted = d .noted }
+
+  -- a precinct is met, and it is one of the sheet's; or none is
+  module _ (cell : Cell) (e : cell ≡ cellOf s r c x y) where
+    pub cell-layered : (k : ℕ) → cell ≡ At k → Layered s g w marks r c x y k
+    cell-layered k f =
+        let m = cell-met s r c x y k (sym e ∙ f) in
+        record {
+          ranged = d .ready .ranged;
+          good = d .ready .play .good;
+          inside = met-inside s g prep w marks (d .ready) 0 r c k x y (d .stands) (m .0) (m .1);
+        }
+
+    pub cell-left : (k : ℕ) → cell ≡ At k → (o : Rest) → leftK o r c x y 0 s g ≡ leftL o r c x y k 0 s g
+    cell-left k f o = let m = cell-met s r c x y k (sym e ∙ f) in meets s g o r c x y k 0 (m .0) (m .1)
+
+    pub cell-passed : cell ≡ Nothing → (o : Rest) → leftK o r c x y 0 s g ≡ o s g
+    cell-passed f o = misses s g o r c x y 0 (cell-missed s r c x y (sym e ∙ f))
