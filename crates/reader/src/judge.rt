@@ -1,4 +1,5 @@
 // The verdict on a sheet: its records in order, the first bad one decides. A verdict is the number that a refusal carries, or 0.
+use packets::state::State;
 use words::word_at;
 ghost use mathlib.Core.Path.{_≡_};
 ghost use Prim.Native.Nat.{_-_, _≤_};
@@ -196,7 +197,7 @@ pub(crate) fn read_verdict(s: &[u8]) -> u32
     if n % 32 != 0 {
         return 1;
     }
-    if 18_464 < n {
+    if 32 * State::MAX_RECORDS < n {
         return 1;
     }
     let v = tile_verdict(s, 0);

@@ -20,6 +20,9 @@ returns-2 c =
     let s = now (c .before .before .before .args .s) in
     refused-length s (simp (lt-ltb 0 (length s) (omega arith), ne-eqb (length s % 32) 0 (omega arith)))
 
+mul-if3 : tie.Need-mul-if3
+mul-if3 c = search needs
+
 returns-3 : tie.Need-returns-3
 returns-3 c =
     let s = now (c .before .before .before .before .args .s) in
@@ -58,6 +61,7 @@ read-verdict-spec =
     (tie.spec
     returns
     returns-2
+    mul-if3
     returns-3
     tile-verdict-requires
     returns-4
