@@ -23,8 +23,8 @@ pub mod Rlcp
 pub mod Records
 pub mod Search
 pub mod Plan
-pub mod Stepping
 pub mod Running
+pub mod Stepping
 pub mod Listing
 pub mod Layers
 pub mod ByOrder

@@ -8,14 +8,12 @@ use lib.ListN.{length, getD, set, replicate}
 use Rattle.laws.specs.Below.{max-at}
 use Rattle.laws.specs.Runs.{Answer, Packet, Ended, seek, found-in}
 use Rattle.packets.specs.Tile.{resOf, maxRes, strideC, strideR, strideL, needed, indexOf}
-use Rattle.packets.specs.Orders.{rangeOf, orderOf}
+use Rattle.packets.specs.Orders.{rangeOf}
 use Rattle.packets.specs.Grid.{changeOf}
 use Rattle.packets.specs.Table.{sheetAt}
 use Rattle.packets.specs.Sound.{sound, positionsFor}
 use Rattle.packets.specs.Calls.{after, stepBy, stepOf}
-use Rattle.packets.specs.Meaning.{Sound, Admitted, sound-means, sound-good, all-sound-means}
-use Rattle.packets.specs.Once.{index-small}
-use Rattle.packets.specs.Run.{layers-within}
+use Rattle.packets.specs.Meaning.{Sound, Admitted, all-sound-means}
 use Rattle.packets.specs.Steps.{asCursor, after-as, step-searches}
 use Rattle.packets.specs.Same.{same}
 use Rattle.packets.specs.declared.state.State.{State}
@@ -27,6 +25,8 @@ use Rattle.walks.specs.Prepare.{AllDone, Components}
 use Rattle.walks.specs.Filling.{all-filled}
 use Rattle.walks.specs.FromSound.{sound-components}
 use Rattle.walks.specs.Walk.{answerOf, indexBy}
+use Rattle.walks.specs.Marks.{markBy}
+use Rattle.walks.specs.Running.{mark-needed}
 use Rattle.walks.specs.Plan.{walkFor, orderIn, Planned}
 use Rattle.walks.specs.declared.walk.Found.{Found}
 use Rattle.walks.specs.declared.walk.Found.the-variants as found
@@ -84,12 +84,11 @@ module _ (st : State) (table marks : List ℕ) (c : Cursor) (h : sound st table 
       → stepBy st marks (c .progression) a ≡ stepOf st table marks c
   stepped a e = ap (stepBy st marks (c .progression)) e ∙ sym (step-searches st table marks c h)
 
-  -- the mark that is set is the packet's
-  pub mark-at : (k : ℕ) (prep : List ℕ) (plan : Plan) (p : Position) → Planned st table k prep plan marks → In p (positionsFor st table k)
-      → (indexBy (plan .walk) (p .layno) (p .resno) (p .compno) (p .precno) ≡ indexOf st p) × (indexOf st p < needed st)
-  unfolding indexBy indexOf
-  mark-at k prep plan p d i =
-      (rw (d .walk), index-small (sheetAt st table) (sound-good st table marks (sound-means st table marks .1 (d .sound))) (rangeOf st (changeOf st k)) (orderOf (changeOf st k .prg)) p i (layers-within st (changeOf st k)))
+-- the mark that is set is the packet's
+pub mark-at : (st : State) (table marks : List ℕ) (k : ℕ) (prep : List ℕ) (plan : Plan) (p : Position) → Planned st table k prep plan marks → In p (positionsFor st table k)
+    → (markBy (plan .walk) p ≡ indexOf st p) × (indexOf st p < needed st)
+unfolding indexBy indexOf
+mark-at st table marks k prep plan p d i = (rw (d .walk), mark-needed st table marks (d .sound) k p i)
 
 -- what is found is one of the progression's
 pub found-listed : (ix : Position → ℕ) (ps : List Position) (marks : List ℕ) (q : Place) (p : Position) → Packet p ≡ seek ix marks (after q ps) → In p ps

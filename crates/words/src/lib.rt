@@ -1,6 +1,6 @@
 // Big-endian 32-bit words in lent bytes. Both functions are total: where the four bytes are not all there, a word is read as 0 and nothing is written.
 ghost use mathlib.Core.Path.{_≡_};
-ghost use Prim.Native.Nat.{_<_};
+ghost use Prim.Native.Nat.{_/_, _%_, _^_, _<_};
 ghost use Rattle.words.specs.Words.{wordAt, putWord};
 
 fn wide(b: u8) -> u32
@@ -25,6 +25,13 @@ pub fn word_at(s: &[u8], at: usize) -> u32
         + wide(s[at + 3])
 }
 
+// The bytes of a word in the other order. The compiler knows it as one instruction, and the four writes below as one.
+fn swapped(w: u32) -> u32
+    ensures { λ r. ⌜ (r % 256 ≡ w / 2 ^ 24) × ((r / 256 % 256 ≡ w / 2 ^ 16 % 2 ^ 8) × ((r / 65536 % 256 ≡ w / 2 ^ 8 % 2 ^ 8) × (r / 16777216 ≡ w % 2 ^ 8))) ⌝ }
+{
+    w % 256 * 0x100_0000 + w / 0x100 % 256 * 0x1_0000 + w / 0x1_0000 % 256 * 0x100 + w / 0x100_0000
+}
+
 // Writes a word's four bytes from place at on.
 pub fn put_word(s: &mut [u8], at: usize, w: u32)
     ensures { λ _. ⌜ now (s .exit) ≡ putWord (now (s .entry)) at w ⌝ }
@@ -35,8 +42,9 @@ pub fn put_word(s: &mut [u8], at: usize, w: u32)
     if s.len() - 4 < at {
         return;
     }
-    s[at] = (w / 0x100_0000) as u8;
-    s[at + 1] = (w / 0x1_0000 % 256) as u8;
-    s[at + 2] = (w / 0x100 % 256) as u8;
-    s[at + 3] = (w % 256) as u8;
+    let v = swapped(w);
+    s[at] = (v % 256) as u8;
+    s[at + 1] = (v / 0x100 % 256) as u8;
+    s[at + 2] = (v / 0x1_0000 % 256) as u8;
+    s[at + 3] = (v / 0x100_0000) as u8;
 }

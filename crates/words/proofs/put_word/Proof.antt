@@ -9,13 +9,16 @@ use Rattle.words.proofs.put_word.Statement.{statement}
 use Rattle.words.proofs.put_word.Tie as tie
 
 returns : tie.Need-returns
-returns c = let a = c .before .args in sym (put-none (now (a .s)) (a .at) (a .w) (omega arith))
+returns c = let a = c .before .before .args in sym (put-none (now (a .s)) (a .at) (a .w) (omega arith))
 
 sub-if2 : tie.Need-sub-if2
 sub-if2 c = search needs
 
 returns-2 : tie.Need-returns-2
-returns-2 c = let a = c .before .before .args in sym (put-none (now (a .s)) (a .at) (a .w) (omega arith))
+returns-2 c = let a = c .before .before .before .args in sym (put-none (now (a .s)) (a .at) (a .w) (omega arith))
+
+swapped-requires : tie.Need-swapped-requires
+swapped-requires c κs = search needs
 
 cast-s : tie.Need-cast-s
 cast-s c = search needs
@@ -54,7 +57,7 @@ same-length : tie.Need-same-length
 same-length c = search needs
 
 returns-3 : tie.Need-returns-3
-returns-3 c = let a = c .before .before .args in sym (put-room (now (a .s)) (a .at) (a .w) (omega arith))
+returns-3 c = let a = c .before .before .before .before .args in let e = c .swapped .ensures in rw (e .0, e .1 .0, e .1 .1 .0, e .1 .1 .1) (sym (put-room (now (a .s)) (a .at) (a .w) (omega arith)))
 
 pub put-word-spec : {M : Type 1} → statement M
 put-word-spec =
@@ -63,6 +66,7 @@ put-word-spec =
     returns
     sub-if2
     returns-2
+    swapped-requires
     cast-s
     slice-write-s
     cast-s-2

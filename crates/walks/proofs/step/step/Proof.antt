@@ -1,87 +1,137 @@
 -- `step`: a sound call is planned, prepared and searched; what is found is marked. Assumes nothing.
 use mathlib.Core.Path.{_≡_, refl, sym, ap, _∙_}
-use mathlib.Core.Bool.{true, false}
+use mathlib.Core.Bool.{true}
+use mathlib.Core.List.{List}
+use mathlib.Core.Option.{none}
 use native.Mathlib.Omega.{arith}
 use denote.Ref.{now}
-use Prim.Native.Nat.{ℕ}
-use mathlib.Core.Option.{none}
+use Prim.Native.Nat.{ℕ, _<_}
 use lib.IntN.{pos}
 use lib.ListN.{set}
-use Rattle.packets.specs.Tile.{indexOf}
-use Rattle.packets.specs.Sound.{positionsFor}
-use Rattle.packets.specs.declared.cursor.Cursor.{Cursor}
 use Rattle.laws.specs.Cases.{not-true, not-false}
-use Rattle.packets.specs.Calls.{Step}
+use Rattle.laws.specs.Runs.{Packet, seek}
+use Rattle.packets.specs.Tile.{indexOf, needed}
+use Rattle.packets.specs.Sound as spec
+use Rattle.packets.specs.Sound.{positionsFor}
+use Rattle.packets.specs.Calls.{Step, after}
+use Rattle.packets.specs.Meaning.{Sound}
 use Rattle.packets.specs.Steps.{step-refused}
+use Rattle.packets.specs.declared.state.State.{State}
+use Rattle.packets.specs.declared.cursor.Cursor.{Cursor}
+use Rattle.packets.specs.declared.cursor.Position.{Position}
 use Rattle.walks.specs.FromSound.{sound-components}
+use Rattle.walks.specs.Walk.{answerOf}
+use Rattle.walks.specs.Marks.{markBy}
+use Rattle.walks.specs.Plan.{Planned}
+use Rattle.walks.specs.declared.walk.Found.the-variants.{At}
 use Rattle.walks.specs.Stepping.{cleared, strides-small, planned, is-sound, known, stands, stepped, mark-at, found-listed, answer-is, answer-none}
 use borrow.Author.Needs.{needs}
 use Rattle.walks.proofs.step.step.Statement.{statement}
 use Rattle.walks.proofs.step.step.Tie as tie
-use Rattle.walks.proofs.step.step.Reads as reads
-use Rattle.walks.proofs.step.step.Lts as lts
-use Rattle.packets.proofs.cursor.Cursor.ended.Reads as ended-reads
-use Rattle.sheets.proofs.sound.Reads as sound-reads
-use Rattle.walks.proofs.mark.set_mark.Reads as set-mark-reads
-use Rattle.walks.proofs.plan.find.Reads as find-reads
-use Rattle.walks.proofs.plan.plan_of.Reads as plan-of-reads
-use Rattle.walks.proofs.prepare.prepare.Reads as prepare-reads
 
--- src/step.rt:20:9
+-- the call is sound
+module _ (c : tie.Else1) where
+  abbrev st : State
+  st = c .before .before .before .before .before .args .st
+
+  abbrev table : List ℕ
+  table = now (c .before .before .before .before .before .args .table)
+
+  abbrev marks : List ℕ
+  marks = now (c .before .before .before .before .before .args .marks)
+
+  abbrev cursor : Cursor
+  cursor = c .before .before .before .before .before .args .cursor
+
+  call : spec.sound st table marks cursor ≡ true
+  call = sym (c .before .sound .ensures) ∙ not-false (c .before .sound .result) (c .if1 .left)
+
+  holds : Sound st table marks
+  holds = is-sound st table marks cursor call
+
+-- the progression is planned, and its numbers prepared
+module _ (c : tie.After-find-arg) where
+  abbrev in-call : tie.Else1
+  in-call = c .before .before .before .before .before .before .before .before .before .before
+
+  plan : Planned (st in-call) (table in-call) (cursor in-call .progression) (c .before .prepare .last .0) (c .before .before .before .before .before .before .before .before .before .plan-of .result) (marks in-call)
+  plan =
+      let p = c .before .before .before .before .before .before .before .before .before .plan-of .ensures in
+      planned (st in-call) (table in-call) (marks in-call) (holds in-call) (cursor in-call .progression) _ _ (c .before .before .before .before .before .before .before .before .before .plan-of .result) (known _ _ _ _ (call in-call))
+      (c .before .prepare .ensures) (λ i. cleared 4224 i) (p .0) (p .1) (omega (arith, c .before .before .before .before .before .before .before .before .before .before .before .before .before .before .before .good .0 .1 .1 .1 .1 .0)) (omega (arith, c .before .before .before .before .before .before .before .before .before .before .before .before .before .before .before .good .0 .1 .1 .1 .1 .1 .0))
+
+-- and searched
+module _ (c : tie.After-find) where
+  abbrev of-call : tie.Else1
+  of-call = c .before .before .before .before .before .before .before .before .before .before .before .before
+
+  found : answerOf (c .find .result) ≡ seek (indexOf (st of-call)) (marks of-call) (after (cursor of-call .place) (positionsFor (st of-call) (table of-call) (cursor of-call .progression)))
+  found = c .find .ensures _ _ _ (plan (c .before .before)) (stands _ _ _ _ (call of-call))
+
+  -- a packet is found, and its mark is one of the needed ones
+  module _ (p : Position) (e : c .find .result ≡ At p) where
+    answer : Packet p ≡ seek (indexOf (st of-call)) (marks of-call) (after (cursor of-call .place) (positionsFor (st of-call) (table of-call) (cursor of-call .progression)))
+    answer = answer-is (c .find .result) p e found
+
+    mark : (markBy (c .before .before .before .before .before .before .before .before .before .before .before .plan-of .result .walk) p ≡ indexOf (st of-call) p) × (indexOf (st of-call) p < needed (st of-call))
+    mark = mark-at _ _ _ _ _ _ p (plan (c .before .before)) (found-listed _ _ _ (cursor of-call .place) p answer)
+
 sound-requires : tie.Need-sound-requires
 sound-requires c κs = search needs
 
--- src/step.rt:21:9
 same-length : tie.Need-same-length
 same-length c = search needs
 
--- src/step.rt:21:9
 returns : tie.Need-returns
-returns c = let a = c .before .before .before .before .before .args in let e = step-refused (a .st) (now (a .table)) (now (a .marks)) (a .cursor) (sym (c .before .sound .ensures) ∙ not-true (c .before .sound .result) (c .if1 .taken)) in (ap (λ (x : Step). x .said) (sym e), ap (λ (x : Step). x .marks) (sym e))
+returns c =
+    let a = c .before .before .before .before .before .args in
+    let e = step-refused (a .st) (now (a .table)) (now (a .marks)) (a .cursor) (sym (c .before .sound .ensures) ∙ not-true (c .before .sound .result) (c .if1 .taken)) in
+    (ap (λ (x : Step). x .said) (sym e), ap (λ (x : Step). x .marks) (sym e))
 
--- src/step.rt:25:9
 plan-of-requires : tie.Need-plan-of-requires
-plan-of-requires c κs = let a = c .before .before .before .before .before .args in let h = sym (c .before .sound .ensures) ∙ not-false (c .before .sound .result) (c .if1 .left) in let d = is-sound (a .st) (now (a .table)) (now (a .marks)) (a .cursor) h in let w = strides-small (a .st) (now (a .table)) (now (a .marks)) d in (omega (arith, known (a .st) (now (a .table)) (now (a .marks)) (a .cursor) h, d .tile .progressions .1), w .0, w .1)
+plan-of-requires c κs =
+    let w = strides-small _ _ _ (holds c) in
+    (omega (arith, known _ _ _ _ (call c), holds c .tile .progressions .1), w .0, w .1)
 
--- src/step.rt:30:5
 prepare-requires : tie.Need-prepare-requires
-prepare-requires c κs = let a = c .before .before .before .before .before .before .before .before .before .before .before .before .before .args in let h = sym (c .before .before .before .before .before .before .before .before .before .sound .ensures) ∙ not-false (c .before .before .before .before .before .before .before .before .before .sound .result) (c .before .before .before .before .before .before .before .before .if1 .left) in let d = is-sound (a .st) (now (a .table)) (now (a .marks)) (a .cursor) h in (refl, (_, sound-components (a .st) (now (a .table)) (now (a .marks)) d))
+prepare-requires c κs = (refl, (_, sound-components _ _ _ (holds (c .before .before .before .before .before .before .before .before))))
 
--- src/step.rt:40:11
 find-requires : tie.Need-find-requires
-find-requires c κs = let a = c .before .before .before .before .before .before .before .before .before .before .before .before .before .before .before .before .args in let h = sym (c .before .before .before .before .before .before .before .before .before .before .before .before .sound .ensures) ∙ not-false (c .before .before .before .before .before .before .before .before .before .before .before .before .sound .result) (c .before .before .before .before .before .before .before .before .before .before .before .if1 .left) in let d = is-sound (a .st) (now (a .table)) (now (a .marks)) (a .cursor) h in (a .st, (now (a .table), (a .cursor .progression, planned (a .st) (now (a .table)) (now (a .marks)) d (a .cursor .progression) _ _ (c .before .before .before .before .before .before .before .before .before .before .plan-of .result) (known (a .st) (now (a .table)) (now (a .marks)) (a .cursor) h) (c .before .before .prepare .ensures) (λ i. cleared 4224 i) (c .before .before .before .before .before .before .before .before .before .before .plan-of .ensures .0) (c .before .before .before .before .before .before .before .before .before .before .plan-of .ensures .1) (omega (arith, c .before .before .before .before .before .before .before .before .before .before .before .before .before .before .before .before .good .0 .1 .1 .1 .1 .0)) (omega (arith, c .before .before .before .before .before .before .before .before .before .before .before .before .before .before .before .before .good .0 .1 .1 .1 .1 .1 .0)), stands (a .st) (now (a .table)) (now (a .marks)) (a .cursor) h)))
+find-requires c κs = (_, (_, (_, plan (c .before), stands _ _ _ _ (call (c .before .before .before .before .before .before .before .before .before .before .before)))))
 
--- src/step.rt:41:19
 enum-known-p : tie.Need-enum-known-p
 enum-known-p c = search needs
 
--- src/step.rt:42:13
 set-mark-requires : tie.Need-set-mark-requires
-set-mark-requires c κs = let a = c .before .before .before .before .before .before .before .before .before .before .before .before .before .before .before .before .before .before .before .before .before .args in let h = sym (c .before .before .before .before .before .before .before .before .before .before .before .before .before .before .before .before .before .sound .ensures) ∙ not-false (c .before .before .before .before .before .before .before .before .before .before .before .before .before .before .before .before .before .sound .result) (c .before .before .before .before .before .before .before .before .before .before .before .before .before .before .before .before .if1 .left) in let d = is-sound (a .st) (now (a .table)) (now (a .marks)) (a .cursor) h in let w = planned (a .st) (now (a .table)) (now (a .marks)) d (a .cursor .progression) _ _ (c .before .before .before .before .before .before .before .before .before .before .before .before .before .before .before .plan-of .result) (known (a .st) (now (a .table)) (now (a .marks)) (a .cursor) h) (c .before .before .before .before .before .before .before .prepare .ensures) (λ i. cleared 4224 i) (c .before .before .before .before .before .before .before .before .before .before .before .before .before .before .before .plan-of .ensures .0) (c .before .before .before .before .before .before .before .before .before .before .before .before .before .before .before .plan-of .ensures .1) (omega (arith, c .before .before .before .before .before .before .before .before .before .before .before .before .before .before .before .before .before .before .before .before .before .good .0 .1 .1 .1 .1 .0)) (omega (arith, c .before .before .before .before .before .before .before .before .before .before .before .before .before .before .before .before .before .before .before .before .before .good .0 .1 .1 .1 .1 .1 .0)) in let r = c .before .before .before .before .find .ensures (a .st) (now (a .table)) (a .cursor .progression) w (stands (a .st) (now (a .table)) (now (a .marks)) (a .cursor) h) in let e = answer-is (c .before .before .before .before .find .result) _ (c .before .before .p .given .1) r in let l = found-listed (indexOf (a .st)) (positionsFor (a .st) (now (a .table)) (a .cursor .progression)) (now (a .marks)) (a .cursor .place) _ e in let m = mark-at (a .st) (now (a .table)) (now (a .marks)) (a .cursor) h (a .cursor .progression) _ _ _ w l in (omega (arith, m .0, m .1, d .few), omega (arith, m .0, m .1, d .marks-long))
+set-mark-requires c κs =
+    let d = holds (c .before .before .before .before .before .before .before .before .before .before .before .before .before .before .before .before) in
+    let m = mark (c .before .before .before .before) _ (c .before .before .p .given .1) in
+    (omega (arith, m .0, m .1, d .few), omega (arith, m .0, m .1, d .marks-long))
 
--- src/step.rt:51:42
 enum-told : tie.Need-enum-told
 enum-told c = search needs
 
--- src/step.rt:51:42
 ended-requires : tie.Need-ended-requires
 ended-requires c κs = search needs
 
--- src/step.rt:16:1
 same-length-2 : tie.Need-same-length-2
 same-length-2 c = search needs
 
--- src/step.rt:16:1
 returns-2 : tie.Need-returns-2
-returns-2 c = let a = c .before .before .before .before .before .before .before .before .before .before .before .before .before .before .before .before .before .before .before .before .before .before .before .before .args in let h = sym (c .before .before .before .before .before .before .before .before .before .before .before .before .before .before .before .before .before .before .before .before .sound .ensures) ∙ not-false (c .before .before .before .before .before .before .before .before .before .before .before .before .before .before .before .before .before .before .before .before .sound .result) (c .before .before .before .before .before .before .before .before .before .before .before .before .before .before .before .before .before .before .before .if1 .left) in let d = is-sound (a .st) (now (a .table)) (now (a .marks)) (a .cursor) h in let w = planned (a .st) (now (a .table)) (now (a .marks)) d (a .cursor .progression) _ _ (c .before .before .before .before .before .before .before .before .before .before .before .before .before .before .before .before .before .before .plan-of .result) (known (a .st) (now (a .table)) (now (a .marks)) (a .cursor) h) (c .before .before .before .before .before .before .before .before .before .before .prepare .ensures) (λ i. cleared 4224 i) (c .before .before .before .before .before .before .before .before .before .before .before .before .before .before .before .before .before .before .plan-of .ensures .0) (c .before .before .before .before .before .before .before .before .before .before .before .before .before .before .before .before .before .before .plan-of .ensures .1) (omega (arith, c .before .before .before .before .before .before .before .before .before .before .before .before .before .before .before .before .before .before .before .before .before .before .before .before .good .0 .1 .1 .1 .1 .0)) (omega (arith, c .before .before .before .before .before .before .before .before .before .before .before .before .before .before .before .before .before .before .before .before .before .before .before .before .good .0 .1 .1 .1 .1 .1 .0)) in let r = c .before .before .before .before .before .before .before .find .ensures (a .st) (now (a .table)) (a .cursor .progression) w (stands (a .st) (now (a .table)) (now (a .marks)) (a .cursor) h) in let e = answer-is (c .before .before .before .before .before .before .before .find .result) _ (c .before .before .before .before .before .p .given .1) r in let l = found-listed (indexOf (a .st)) (positionsFor (a .st) (now (a .table)) (a .cursor .progression)) (now (a .marks)) (a .cursor .place) _ e in let m = mark-at (a .st) (now (a .table)) (now (a .marks)) (a .cursor) h (a .cursor .progression) _ _ _ w l in let t = stepped (a .st) (now (a .table)) (now (a .marks)) (a .cursor) h _ e in (ap (λ (x : Step). x .said) t, c .before .before .set-mark .ensures ∙ ap (λ (i : ℕ). set (now (a .marks)) i 1) (m .0) ∙ ap (λ (x : Step). x .marks) t)
+returns-2 c =
+    let k = c .before .before .before .before .before .before .before .before .before .before .before .before .before .before .before .before .before .before .before in
+    let e = c .before .before .before .before .before .p .given .1 in
+    let t = stepped _ _ _ _ (call k) _ (answer (c .before .before .before .before .before .before .before) _ e) in
+    (ap (λ (x : Step). x .said) t, c .before .before .set-mark .ensures ∙ ap (λ (i : ℕ). set (marks k) i 1) (mark (c .before .before .before .before .before .before .before) _ e .0) ∙ ap (λ (x : Step). x .marks) t)
 
--- src/step.rt:16:1
 same-length-3 : tie.Need-same-length-3
 same-length-3 c = search needs
 
--- src/step.rt:16:1
 returns-3 : tie.Need-returns-3
-returns-3 c = let a = c .before .before .before .before .before .before .before .before .before .before .before .before .before .before .before .before .before .before .before .before .args in let h = sym (c .before .before .before .before .before .before .before .before .before .before .before .before .before .before .before .before .sound .ensures) ∙ not-false (c .before .before .before .before .before .before .before .before .before .before .before .before .before .before .before .before .sound .result) (c .before .before .before .before .before .before .before .before .before .before .before .before .before .before .before .if1 .left) in let d = is-sound (a .st) (now (a .table)) (now (a .marks)) (a .cursor) h in let w = planned (a .st) (now (a .table)) (now (a .marks)) d (a .cursor .progression) _ _ (c .before .before .before .before .before .before .before .before .before .before .before .before .before .before .plan-of .result) (known (a .st) (now (a .table)) (now (a .marks)) (a .cursor) h) (c .before .before .before .before .before .before .prepare .ensures) (λ i. cleared 4224 i) (c .before .before .before .before .before .before .before .before .before .before .before .before .before .before .plan-of .ensures .0) (c .before .before .before .before .before .before .before .before .before .before .before .before .before .before .plan-of .ensures .1) (omega (arith, c .before .before .before .before .before .before .before .before .before .before .before .before .before .before .before .before .before .before .before .before .good .0 .1 .1 .1 .1 .0)) (omega (arith, c .before .before .before .before .before .before .before .before .before .before .before .before .before .before .before .before .before .before .before .before .good .0 .1 .1 .1 .1 .1 .0)) in let e = answer-none (c .before .before .before .find .result) (c .before .enum-told .given .1) (c .before .before .before .find .ensures (a .st) (now (a .table)) (a .cursor .progression) w (stands (a .st) (now (a .table)) (now (a .marks)) (a .cursor) h)) in let t = stepped (a .st) (now (a .table)) (now (a .marks)) (a .cursor) h _ e in (ap (λ (x : Cursor). record { number = pos 0; packet = none; cursor = x }) (c .ended .ensures) ∙ ap (λ (x : Step). x .said) t, ap (λ (x : Step). x .marks) t)
+returns-3 c =
+    let e = answer-none (c .before .before .before .find .result) (c .before .enum-told .given .1) (found (c .before .before .before)) in
+    let t = stepped _ _ _ _ (call (c .before .before .before .before .before .before .before .before .before .before .before .before .before .before .before)) _ e in
+    (ap (λ (x : Cursor). record { number = pos 0; packet = none; cursor = x }) (c .ended .ensures) ∙ ap (λ (x : Step). x .said) t, ap (λ (x : Step). x .marks) t)
 
 pub step-spec : {M : Type 1} → statement M
 step-spec =
