@@ -35,7 +35,7 @@ bench: $(ARCHIVE)
 	tools/bench instructions
 
 slow: $(ARCHIVE)
-	tools/bench slow --search 20000
+	tools/bench slow --limit 60 --search 5000
 
 # The stored answers that the program crates/vectors replays: the Rust's and the model's.
 vectors:
