@@ -2,8 +2,8 @@
 use mathlib.Core.Path.{_≡_, refl, sym}
 use mathlib.Core.Bool.{Bool, true, false, _&&_}
 use mathlib.Core.Logic.{⊎-elim}
-use Prim.Native.Nat.{ℕ, zero, suc, _+_, _≤_, _<_, min, max}
-use native.Mathlib.Nat.{eq-or-lt-of-le, le-of-suc-le-suc}
+use Prim.Native.Nat.{ℕ, zero, suc, _+_, _*_, _≤_, _<_, min, max}
+use native.Mathlib.Nat.{eq-or-lt-of-le, le-of-suc-le-suc, mul-add, mul-one}
 use native.Mathlib.Numerals.{add-one}
 use native.Mathlib.Omega.{arith}
 use Rattle.laws.specs.Cases.{and-false, and-true}
@@ -64,6 +64,12 @@ module _ (f : ℕ → ℕ) where
   sum-part zero i h = not-below i h
   sum-part (suc n) i h =
       last-or h (λ e. rw e (omega arith)) (λ l. omega (arith, sum-part n i l))
+
+  -- a sum of n numbers that are at most m
+  pub sum-most : (m n : ℕ) → ((i : ℕ) → i < n → f i ≤ m) → sumBelow f n ≤ m * n
+  unfolding sumBelow
+  sum-most m zero h = omega arith
+  sum-most m (suc n) h = omega (arith, sum-most m n (λ i l. h i (omega arith)), h n (omega arith), mul-add m n 1, mul-one m)
 
 -- the largest, and the smallest but for a, of f 0 .. f (n - 1)
 unfoldable pub maxBelow : (ℕ → ℕ) → ℕ → ℕ

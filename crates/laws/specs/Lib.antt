@@ -35,4 +35,3 @@ pub mod Runs
 pub mod Listing
 pub mod Zeros
 pub mod AllRuns
-pub mod RunLoop

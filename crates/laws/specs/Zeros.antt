@@ -30,7 +30,7 @@ zeros-most (suc n) [] = omega arith
 zeros-most (suc n) (x ∷ xs) = omega (arith, zeros-most n xs, one-small (eqb x 0))
 
 -- a 0 that becomes 1
-pub zeros-fall : (n : ℕ) (l : List ℕ) (i : ℕ) → i < n → i < length l → getD l i 0 ≡ 0 → zeros n (set l i 1) < zeros n l
+zeros-fall : (n : ℕ) (l : List ℕ) (i : ℕ) → i < n → i < length l → getD l i 0 ≡ 0 → zeros n (set l i 1) < zeros n l
 unfolding zeros
 zeros-fall zero l i k h e = omega arith
 zeros-fall (suc n) [] i k h e = omega arith

@@ -12,8 +12,17 @@ use Rattle.packets.specs.declared.state.State.{State}
 abbrev pub entry : Sheet → ℕ → ℕ → List ℕ
 entry s c r = s .pdx c r ∷ s .pdy c r ∷ width s c r ∷ height s c r ∷ []
 
+abbrev pub wordsIn : Sheet → ℕ → List ℕ
+wordsIn s c = gather (entry s c) (span 0 (resOf (s .st) c))
+
+abbrev pub wordsBelow : Sheet → ℕ → List ℕ
+wordsBelow s k = gather (wordsIn s) (span 0 k)
+
+abbrev pub tableWords : Sheet → List ℕ
+tableWords s = wordsBelow s (s .st .components)
+
 unfoldable pub tableOf : Sheet → List ℕ
-tableOf s = wordsBytes (gather (λ c. gather (entry s c) (span 0 (resOf (s .st) c))) (span 0 (s .st .components)))
+tableOf s = wordsBytes (tableWords s)
 
 -- word k of the entry of resolution r of component c
 abbrev pub entryWord : State → List ℕ → ℕ → ℕ → ℕ → ℕ

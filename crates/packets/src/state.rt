@@ -94,6 +94,9 @@ impl State {
 
     pub const MAX_MARKS: u32 = 65_536;
 
+    // four for each of 33 resolutions of 16 components
+    pub const MAX_TABLE_WORDS: usize = 2112;
+
     // The state that comes with a refusal: every number 0.
     pub fn empty() -> Self
         ensures { λ r. ⌜ r ≡ emptyState ⌝ }

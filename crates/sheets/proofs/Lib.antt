@@ -1,12 +1,9 @@
 pub mod InRange
 pub mod Numbered
-pub mod Values
-pub mod Puts
-pub mod Laid
-pub mod Components
 pub mod OnAxis
 pub mod Listed
 pub mod Resolution
 pub mod SoundBy
 pub mod SetUps
+pub mod Kept
 pub mod Determined

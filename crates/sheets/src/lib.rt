@@ -44,7 +44,9 @@ pub fn setup_with_room(sheet: &[u8], table: &mut [u8], marks: &mut [u8], room: u
         return read;
     }
     let st = read.state;
-    let found = survey::survey(sheet, Source::Records, false, st);
+    // the words of the table, kept until nothing can be refused
+    let mut kept = [0u32; 2112];
+    let found = survey::survey(sheet, Source::Records, false, st, &mut kept);
     if found.grid {
         if found.few {
             let needed = found.needed as usize;
@@ -52,13 +54,14 @@ pub fn setup_with_room(sheet: &[u8], table: &mut [u8], marks: &mut [u8], room: u
                 return refused(Verdict::Marks);
             }
             let resolutions = st.resolutions;
-            if table.len() < 16 * table::entries(&resolutions, st.components as usize) {
+            let words = 4 * table::entries(&resolutions, st.components as usize);
+            if table.len() < 4 * words {
                 return refused(Verdict::Table);
             }
             if room < 16 * needed {
                 return refused(Verdict::Output);
             }
-            table::write_table(sheet, st, table);
+            table::write(&kept, words, table);
             marks::clear(marks, needed);
             let state = reports::reported(st, found);
             return SetUp {
@@ -87,7 +90,8 @@ pub fn state_sound(st: State, table: &[u8], marks: &[u8]) -> bool
     if fields::fields_sound(st) {
         let resolutions = st.resolutions;
         if 16 * table::entries(&resolutions, st.components as usize) <= table.len() {
-            let found = survey::survey(table, Source::Entries, true, st);
+            let mut kept = [0u32; 2112];
+            let found = survey::survey(table, Source::Entries, true, st, &mut kept);
             return found.good
                 & (reports::agree(st, found)
                     & (found.grid & (found.few & ((found.needed as usize) <= marks.len()))));

@@ -5,8 +5,11 @@ pub mod Orders
 pub mod Products
 pub mod Over
 pub mod Steps
+pub mod Keeping
 pub mod Agreed
 pub mod Bases
 pub mod Seen
+pub mod Tables
+pub mod Room
 pub mod Found
 pub mod Determined

@@ -91,6 +91,9 @@ module _ {e : List ℕ} {p : Places} {check : Bool} {st : State} {place : ℕ} {
   both : one .good ≡ true → (rangedAt st c ≡ true) × (fineAt e (placeIn p st) st check c ≡ true)
   both g = pick-both (rangedAt st c) (fineAt e (placeIn p st) st check c) (partSums (sheetBy e p st) c) (sym (ap (λ (a : Sums). a .good) part) ∙ g)
 
+  pub levels-few : one .good ≡ true → resOf st c ≤ 33
+  levels-few g = in-range (dxOf st c) (dyOf st c) (resOf st c) (both g .0) .n-high
+
   pub seen-more : Small p → c < 16 → one .good ≡ true
       → Seen e p check st (place + (p .apart * resOf st c + p .between)) (joinedSums all one) (max deep (resOf st c)) (set xs c (one .«x_least»)) (set ys c (one .«y_least»)) (c + 1)
   seen-more small h g =

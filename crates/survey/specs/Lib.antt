@@ -1,3 +1,4 @@
 pub mod Survey
 pub mod Passing
+pub mod Kept
 pub mod Sources

@@ -1,29 +1,32 @@
 -- What a survey is of a table and of a sheet: over entries it is of the sheet that a state and a table describe, over records of what the bytes of the sheet say.
 -- Assumes nothing.
 use mathlib.Core.Path.{_≡_, refl, ap, fun-ext}
-use mathlib.Core.Bool.{true, false, _&&_}
-use mathlib.Core.List.{List}
+use mathlib.Core.Bool.{Bool, true, false, _&&_}
+use mathlib.Core.List.{List, [], _∷_}
 use Prim.Native.Nat.{ℕ, zero, suc, _+_, _*_, _≤_, _<_}
 use native.Mathlib.Nat.{le-mul-of-pos-right, mul-comm}
 use native.Mathlib.Omega.{arith}
+use lib.ListN.{length}
 use lib.Dec.{leb, eqb}
 use borrow.Author.Tests.{leb-true, le-leb}
 use Rattle.laws.specs.Cases.{and-true}
 use Rattle.laws.specs.Below.{sumBelow}
-use Rattle.laws.specs.Pointwise.{all-true}
-use Rattle.words.specs.Words.{wordAt}
+use Rattle.laws.specs.Pointwise.{all-true, gather-same}
+use Rattle.words.specs.Words.{wordAt, over}
+use Rattle.geometry.specs.Line.{count}
 use Rattle.geometry.specs.Precinct.{pick}
 use Rattle.packets.specs.Sheet.{wd, within, componentRange, exponentRange, componentRecord, resolutionRecord, fieldsOf}
 use Rattle.packets.specs.Tile.{Sheet, dxOf, dyOf, resOf, levelOf, width, height, maxPrec, maxRes, dxMin, dyMin, reported, needed, entriesBefore}
 use Rattle.packets.specs.Grid.{gridAgreed}
-use Rattle.packets.specs.Table.{entryWord, sheetAt, sheetIn}
+use Rattle.packets.specs.Table.{entry, tableWords, entryWord, sheetAt, sheetIn}
 use Rattle.packets.specs.Sound.{entrySound}
 use Rattle.packets.specs.Reading.{Read}
 use Rattle.packets.specs.Fields.{res-is, tile-good, component-range, exponent-range}
 use Rattle.packets.specs.Alike.{Alike, max-prec-same, dx-min-same, dy-min-same, grid-same}
 use Rattle.packets.specs.declared.state.State.{State}
+use Rattle.survey.specs.declared.Source.{Source}
 use Rattle.survey.specs.declared.Source.the-variants.{Records, Entries}
-use Rattle.survey.specs.Survey.{placeOf, sheetFrom, entryGood, surveyGood, surveyed, surveyOf}
+use Rattle.survey.specs.Survey.{placeOf, sheetFrom, entryGood, surveyGood, surveyed, surveyOf, foundOf, keptOf}
 
 -- ENTRIES: the first word of an entry
 first-word : (e : List ℕ) (st : State) (c r : ℕ) → wordAt e (placeOf Entries st c r) ≡ entryWord st e 0 c r
@@ -123,6 +126,27 @@ module _ (b : List ℕ) where
           «dx_min» = x i;
           «dy_min» = y i;
         })
+
+    -- and what it keeps is the sheet's table
+    same-entry : (c r : ℕ) → c < wd b 0 6 → r < resOf (fieldsOf b) c → entry there c r ≡ entry (sheetIn b) c r
+    unfolding fieldsOf
+    same-entry c r h l =
+        let x = survey-records .same-x c r h l in
+        let y = survey-records .same-y c r h l in
+        λ i. x i .pd ∷ y i .pd ∷ count (x i) ∷ count (y i) ∷ []
+
+    same-words : tableWords there ≡ tableWords (sheetIn b)
+    unfolding fieldsOf
+    same-words = gather-same _ _ (wd b 0 6) (λ c h. gather-same (entry there c) (entry (sheetIn b) c) (resOf (fieldsOf b) c) (λ r l. same-entry c r h l))
+
+    pub records-kept : (old : List ℕ) → 2112 ≤ length old → keptOf b Records false (fieldsOf b) old ≡ over (tableWords (sheetIn b)) old
+    unfolding keptOf
+    records-kept old room = rw (le-leb 2112 (length old) room, records-good) (ap (λ (ws : List ℕ). over ws old) same-words)
+
+-- with room to keep the table's words, a survey finds what there is
+pub found-roomy : (e : List ℕ) (at : Source) (check : Bool) (st : State) (old : List ℕ) → 2112 ≤ length old → foundOf e at check st old ≡ surveyOf e at check st
+unfolding foundOf
+found-roomy e at check st old room = rw (le-leb 2112 (length old) room) refl
 
 -- the largest precinct count is at most the marks needed, unless there are none of the other factors
 pub prec-few : (s : Sheet) → 1 ≤ s .st .layers → 1 ≤ maxRes (s .st) → 1 ≤ s .st .components → maxPrec s ≤ needed (reported s)

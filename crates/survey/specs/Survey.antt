@@ -2,12 +2,14 @@
 use Prim.Native.Nat.{ℕ, _+_, _*_}
 use mathlib.Core.Bool.{Bool, true, false, _&&_, _||_, not}
 use mathlib.Core.List.{List}
+use lib.ListN.{length, replicate}
 use lib.Dec.{leb, eqb}
 use Rattle.laws.specs.Below.{allBelow}
-use Rattle.words.specs.Words.{wordAt}
+use Rattle.words.specs.Words.{wordAt, over}
 use Rattle.geometry.specs.Precinct.{pick}
 use Rattle.packets.specs.Sheet.{componentRange, exponentRange}
 use Rattle.packets.specs.Tile.{Sheet, dxOf, dyOf, resOf, width, height, maxPrec, maxRes, dxMin, dyMin, reported, needed, entriesBefore}
+use Rattle.packets.specs.Table.{tableWords}
 use Rattle.packets.specs.Grid.{everywhere, gridAgreed}
 use Rattle.packets.specs.declared.state.State.{State}
 use Rattle.survey.specs.declared.Source.{Source}
@@ -62,3 +64,19 @@ surveyed s =
 
 unfoldable pub surveyOf : List ℕ → Source → Bool → State → Findings
 surveyOf e at check st = pickSurvey (surveyGood e at check st) (surveyed (sheetFrom e at st)) noSurvey
+
+-- there is room to keep the words of the largest table
+abbrev roomy : List ℕ → Bool
+roomy old = leb 2112 (length old)
+
+-- with room the survey, and without nothing
+unfoldable pub foundOf : List ℕ → Source → Bool → State → List ℕ → Findings
+foundOf e at check st old = pickSurvey (roomy old) (surveyOf e at check st) noSurvey
+
+abbrev pub pickKept : Bool → List ℕ → List ℕ → List ℕ
+pickKept true a b = a
+pickKept false a b = b
+
+-- what is kept: the words of the table, laid over the start; where nothing is found, zeros
+unfoldable pub keptOf : List ℕ → Source → Bool → State → List ℕ → List ℕ
+keptOf e at check st old = pickKept (roomy old && surveyGood e at check st) (over (tableWords (sheetFrom e at st)) old) (replicate (length old) 0)

@@ -2,7 +2,8 @@
 use geometry::math::Word;
 use geometry::precinct;
 ghost use mathlib.Core.Path.{_≡_};
-ghost use Prim.Native.Nat.{_*_, _^_, _<_};
+ghost use Prim.Native.Nat.{_*_, _^_, _≤_, _<_};
+ghost use Rattle.laws.specs.Ceiling.{ceilDiv};
 ghost use Rattle.survey.specs.Passing.{valueOf, axisOf, countOf};
 
 pub(crate) struct Axis {
@@ -23,6 +24,15 @@ fn value(w: Word) -> u32
     }
 }
 
+// n / 2^by, rounded up.
+fn bound(n: u32, by: u32) -> u32
+    requires { ⌜ by ≤ 32 ⌝ }
+    ensures { λ r. ⌜ r ≡ ceilDiv n (2 ^ by) ⌝ }
+{
+    let unit = 1u64 << by;
+    (((n as u64) + unit - 1) >> by) as u32
+}
+
 impl Axis {
     pub(crate) fn of(t0: u32, t1: u32, d: u32) -> Self
         requires { ⌜ 0 < d ⌝ }
@@ -35,12 +45,15 @@ impl Axis {
 
     // The precincts of the resolution at this level whose exponent is pd.
     pub(crate) fn count(self, level: u32, pd: u32) -> u32
-        requires { ⌜ (level < 64) × (pd < 32) ⌝ }
+        requires { ⌜ (level ≤ 32) × (pd < 32) ⌝ }
         ensures { λ r. ⌜ r ≡ countOf self level pd ⌝ }
     {
-        let r0 = value(precinct::resolution_bound(self.c0, level));
-        let r1 = value(precinct::resolution_bound(self.c1, level));
-        value(precinct::precincts(r0, r1, pd))
+        let r0 = bound(self.c0, level);
+        let r1 = bound(self.c1, level);
+        if r1 <= r0 {
+            return 0;
+        }
+        bound(r1, pd) - (r0 >> pd)
     }
 }
 

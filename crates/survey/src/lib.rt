@@ -3,6 +3,7 @@
 mod axis;
 mod component;
 mod grid;
+mod kept;
 mod marks;
 mod places;
 mod sums;
@@ -15,7 +16,10 @@ use geometry::tile::Area;
 use packets::state::State;
 ghost use mathlib.Core.Path.{_≡_};
 ghost use Prim.Native.Nat.{_≤_, _<_};
-ghost use Rattle.survey.specs.Survey.{noSurvey, surveyOf};
+ghost use lib.ListN.{length};
+ghost use Rattle.packets.specs.Table.{tableWords};
+ghost use Rattle.survey.specs.Survey.{sheetFrom, noSurvey, surveyOf, foundOf, keptOf};
+ghost use Rattle.survey.specs.Kept.{Keeps};
 ghost use Rattle.survey.specs.Passing.{findingsOf};
 
 // Where precinct exponents stand: in the records of a sheet, or in the entries of a table.
@@ -90,9 +94,11 @@ impl Findings {
     }
 }
 
-// Surveys the components of st with the exponents that stand in e; with check, also that the sizes behind them are right.
-pub fn survey(e: &[u8], at: Source, check: bool, st: State) -> Findings
-    ensures { λ r. ⌜ r ≡ surveyOf (now (e .entry)) at check st ⌝ }
+// The survey of a state, whose table's words are kept; where a range does not hold, some may be.
+fn passed(e: &[u8], at: Source, check: bool, st: State, kept: &mut [u32]) -> Findings
+    requires { ⌜ 2112 ≤ length (now kept) ⌝ }
+    ensures found { λ r. ⌜ r ≡ surveyOf (now (e .entry)) at check st ⌝ }
+    ensures keeps { λ r. ⌜ Keeps (now (kept .entry)) (now (kept .exit)) 0 (r .good) (tableWords (sheetFrom (now (e .entry)) at st)) ⌝ }
 {
     if State::MAX_COMPONENTS < st.components {
         return Findings::none();
@@ -106,6 +112,7 @@ pub fn survey(e: &[u8], at: Source, check: bool, st: State) -> Findings
     };
     let places = Places::of(at);
     let mut place = places.first;
+    let mut to: usize = 0;
     let mut all = Sums::start();
     let mut max_res: u32 = 0;
     // the smallest steps of each component
@@ -116,13 +123,25 @@ pub fn survey(e: &[u8], at: Source, check: bool, st: State) -> Findings
         let dx = st.dx[c];
         let dy = st.dy[c];
         let resolutions = st.resolutions[c];
-        let one = component::component(e, place, places.apart, check, tile, dx, dy, resolutions);
+        let one = component::component(
+            e,
+            place,
+            places.apart,
+            check,
+            tile,
+            dx,
+            dy,
+            resolutions,
+            kept,
+            to,
+        );
         if one.good {
             all = all.joined(one);
             max_res = math::uint_max(max_res, resolutions);
             xs[c] = one.x_least;
             ys[c] = one.y_least;
             place += places.apart * (resolutions as usize) + places.between;
+            to += 4 * (resolutions as usize);
             c += 1;
         } else {
             return Findings::none();
@@ -130,4 +149,21 @@ pub fn survey(e: &[u8], at: Source, check: bool, st: State) -> Findings
     }
     let wanted = grid::wanted(st);
     Findings::of(wanted, st.layers, st.components, max_res, all, &xs, &ys)
+}
+
+// Surveys the components of st with the exponents that stand in e; with check, also that the sizes behind them are right. The words of the table that they
+// give are laid over the start of kept, which needs room for the largest table. Where it has less, or a range does not hold, nothing is found, and kept is cleared.
+pub fn survey(e: &[u8], at: Source, check: bool, st: State, kept: &mut [u32]) -> Findings
+    ensures found { λ r. ⌜ r ≡ foundOf (now (e .entry)) at check st (now (kept .entry)) ⌝ }
+    ensures keeps { λ _. ⌜ now (kept .exit) ≡ keptOf (now (e .entry)) at check st (now (kept .entry)) ⌝ }
+{
+    if kept.len() < State::MAX_TABLE_WORDS {
+        kept::clear(kept);
+        return Findings::none();
+    }
+    let found = passed(e, at, check, st, kept);
+    if !found.good {
+        kept::clear(kept);
+    }
+    found
 }

@@ -1,4 +1,4 @@
--- What LRCP and RLCP have in common: inside a layer and a resolution both go over the components and the precincts of each, by their prepared number.
+-- What LRCP and RLCP have in common: inside a layer and a resolution both go over the components and the precincts of each, by their count.
 -- `o` is what the two outer loops have left. Assumes nothing.
 use mathlib.Core.Path.{_≡_, refl, _∙_}
 use mathlib.Core.Bool.{Bool, true, false}
@@ -16,7 +16,7 @@ use Rattle.packets.specs.Positions.{components, everyPrecinct}
 use Rattle.packets.specs.Met.{precincts-in}
 use Rattle.packets.specs.Inside.{Inside}
 use Rattle.packets.specs.declared.cursor.Position.{Position}
-use Rattle.walks.specs.Prepared.{field}
+use Rattle.walks.specs.Prepared.{countIn}
 use Rattle.walks.specs.Walk.{indexBy, Counted}
 use Rattle.walks.specs.Going.{Rest}
 use Rattle.walks.specs.Innermost.{last-in, last-out, last-found, last-passed}
@@ -83,18 +83,18 @@ pub record Stands (w : Walk) (l r c : ℕ) : Type 0 where
   pub comp-from : w .compno0 ≤ c
   pub comp-to : c < w .compno1
 
-module _ (s : Sheet) (g : Range) (prep : List ℕ) (w : Walk) (marks : List ℕ) (counted : Counted s g prep w marks) (l r c : ℕ) (t : Stands w l r c) where
-  -- the prepared numbers hold its own
+module _ (s : Sheet) (g : Range) (counts : List ℕ) (w : Walk) (marks : List ℕ) (counted : Counted s g counts w marks) (l r c : ℕ) (t : Stands w l r c) where
+  -- the counts hold its own
   pub held : (r < 33) × (c < 16)
   held =
       let q = counted .ranged in
       (omega (arith, counted .resolutions, q .resno1, t .res-to), omega (arith, counted .components, q .compno1, t .comp-to))
 
-  module _ (n : ℕ) (e : n ≡ field prep r c 7) where
+  module _ (n : ℕ) (e : n ≡ countIn counts r c) where
     pub count-is : n ≡ precincts s c r
     count-is =
         let q = counted .ranged in
-        e ∙ counted .counts r c (rw (← (q .resno0)) (t .res-from)) (rw (← (q .resno1)) (t .res-to)) (rw (← (q .compno0)) (t .comp-from)) (rw (← (q .compno1)) (t .comp-to))
+        e ∙ counted .number r c (rw (← (q .resno0)) (t .res-from)) (rw (← (q .resno1)) (t .res-to)) (rw (← (q .compno0)) (t .comp-from)) (rw (← (q .compno1)) (t .comp-to))
 
     -- one of so many precincts: its mark is below the largest number of marks, and below the marks' number; and what reading it says
     module _ (k : ℕ) (h : k < n) where

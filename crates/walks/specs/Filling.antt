@@ -1,6 +1,6 @@
 -- What was written is what the walks by points need. Assumes nothing.
 use Prim.Native.Nat.{ℕ, _+_, _-_, _*_, _/_, _%_, _^_, _≤_, _<_}
-use mathlib.Core.Path.{_≡_, sym, _∙_}
+use mathlib.Core.Path.{_≡_, refl, _∙_}
 use mathlib.Core.List.{List}
 use mathlib.Core.Logic.{⊎-elim}
 use native.Mathlib.Nat.{mod-eq-of-lt}
@@ -92,11 +92,11 @@ module _ (prep : List ℕ) (at : ℕ) (table : List ℕ) (from level dx dy tx0 t
 
   pub entry-length : length (putEntry prep at table from level dx dy tx0 ty0) ≡ length prep
   unfolding putEntry
-  entry-length = length-set afterY (at + 7) _ ∙ length-y
+  entry-length = length-y
 
-  last : (k : ℕ) → (k ≡ at + 7 → ⊥) → getD written k 0 ≡ getD afterY k 0
+  opened : (k : ℕ) → getD written k 0 ≡ getD afterY k 0
   unfolding putEntry
-  last k h = getD-set-other afterY (at + 7) k _ 0 h
+  opened k = refl
 
   over-y : (k : ℕ) → (k ≡ at + 2 → ⊥) → (k ≡ at + 2 + 2 → ⊥) → (k ≡ at + 2 + 4 → ⊥) → getD afterY k 0 ≡ getD afterX k 0
   over-y k a b c = axis-other afterX (at + 2) ty0 dy level (wordAt table (from + 4)) k a b c
@@ -105,14 +105,14 @@ module _ (prep : List ℕ) (at : ℕ) (table : List ℕ) (from level dx dy tx0 t
   over-x k a b c = axis-other after0 (at + 1) tx0 dx level (wordAt table from) k a b c
 
   -- the rest stays
-  pub entry-rest : (k : ℕ) → (at ≤ k → k < at + 8 → ⊥) → getD (putEntry prep at table from level dx dy tx0 ty0) k 0 ≡ getD prep k 0
+  pub entry-rest : (k : ℕ) → (at ≤ k → k < at + 7 → ⊥) → getD (putEntry prep at table from level dx dy tx0 ty0) k 0 ≡ getD prep k 0
   entry-rest k h =
-      last k (λ e. h (omega arith) (omega arith))
+      opened k
       ∙ over-y k (λ e. h (omega arith) (omega arith)) (λ e. h (omega arith) (omega arith)) (λ e. h (omega arith) (omega arith))
       ∙ over-x k (λ e. h (omega arith) (omega arith)) (λ e. h (omega arith) (omega arith)) (λ e. h (omega arith) (omega arith))
       ∙ getD-set-other prep at k _ 0 (λ e. h (omega arith) (omega arith))
 
-  module _ (room : at + 7 < length prep) where
+  module _ (room : at + 6 < length prep) where
     in-x : at + 1 + 4 < length after0
     in-x = rw (length-set prep at (pick (ltb 0 count) wide 0)) (omega arith)
 
@@ -121,57 +121,54 @@ module _ (prep : List ℕ) (at : ℕ) (table : List ℕ) (from level dx dy tx0 t
 
     pub put-0 : getD (putEntry prep at table from level dx dy tx0 ty0) at 0 ≡ pick (ltb 0 (wordAt table (from + 8) * wordAt table (from + 12))) (wordAt table (from + 8)) 0
     put-0 =
-        last at (omega arith) ∙ over-y at (omega arith) (omega arith) (omega arith) ∙ over-x at (omega arith) (omega arith) (omega arith)
+        opened at ∙ over-y at (omega arith) (omega arith) (omega arith) ∙ over-x at (omega arith) (omega arith) (omega arith)
         ∙ getD-set-same prep at _ 0 (omega arith)
 
     pub put-1 : getD (putEntry prep at table from level dx dy tx0 ty0) (at + 1) 0 ≡ dx * 2 ^ (wordAt table from + level) % 4294967296
-    put-1 = last (at + 1) (omega arith) ∙ over-y (at + 1) (omega arith) (omega arith) (omega arith) ∙ axis-step after0 (at + 1) tx0 dx level (wordAt table from) in-x
+    put-1 = opened (at + 1) ∙ over-y (at + 1) (omega arith) (omega arith) (omega arith) ∙ axis-step after0 (at + 1) tx0 dx level (wordAt table from) in-x
 
     pub put-2 : getD (putEntry prep at table from level dx dy tx0 ty0) (at + 2) 0 ≡ dy * 2 ^ (wordAt table (from + 4) + level) % 4294967296
-    put-2 = last (at + 2) (omega arith) ∙ axis-step afterX (at + 2) ty0 dy level (wordAt table (from + 4)) in-y
+    put-2 = opened (at + 2) ∙ axis-step afterX (at + 2) ty0 dy level (wordAt table (from + 4)) in-y
 
     pub put-3 : getD (putEntry prep at table from level dx dy tx0 ty0) (at + 3) 0
         ≡ pick (eqb (boundOf tx0 dx level % 2 ^ wordAt table from) 0) 4294967295 tx0
     put-3 =
         let i : at + 3 ≡ at + 1 + 2 = omega arith in
-        rw i (last (at + 1 + 2) (omega arith) ∙ over-y (at + 1 + 2) (omega arith) (omega arith) (omega arith) ∙ axis-start after0 (at + 1) tx0 dx level (wordAt table from) in-x)
+        rw i (opened (at + 1 + 2) ∙ over-y (at + 1 + 2) (omega arith) (omega arith) (omega arith) ∙ axis-start after0 (at + 1) tx0 dx level (wordAt table from) in-x)
 
     pub put-4 : getD (putEntry prep at table from level dx dy tx0 ty0) (at + 4) 0
         ≡ pick (eqb (boundOf ty0 dy level % 2 ^ wordAt table (from + 4)) 0) 4294967295 ty0
     put-4 =
         let i : at + 4 ≡ at + 2 + 2 = omega arith in
-        rw i (last (at + 2 + 2) (omega arith) ∙ axis-start afterX (at + 2) ty0 dy level (wordAt table (from + 4)) in-y)
+        rw i (opened (at + 2 + 2) ∙ axis-start afterX (at + 2) ty0 dy level (wordAt table (from + 4)) in-y)
 
     pub put-5 : getD (putEntry prep at table from level dx dy tx0 ty0) (at + 5) 0 ≡ boundOf tx0 dx level / 2 ^ wordAt table from
     put-5 =
         let i : at + 5 ≡ at + 1 + 4 = omega arith in
-        rw i (last (at + 1 + 4) (omega arith) ∙ over-y (at + 1 + 4) (omega arith) (omega arith) (omega arith) ∙ axis-first after0 (at + 1) tx0 dx level (wordAt table from) in-x)
+        rw i (opened (at + 1 + 4) ∙ over-y (at + 1 + 4) (omega arith) (omega arith) (omega arith) ∙ axis-first after0 (at + 1) tx0 dx level (wordAt table from) in-x)
 
     pub put-6 : getD (putEntry prep at table from level dx dy tx0 ty0) (at + 6) 0 ≡ boundOf ty0 dy level / 2 ^ wordAt table (from + 4)
     put-6 =
         let i : at + 6 ≡ at + 2 + 4 = omega arith in
-        rw i (last (at + 2 + 4) (omega arith) ∙ axis-first afterX (at + 2) ty0 dy level (wordAt table (from + 4)) in-y)
+        rw i (opened (at + 2 + 4) ∙ axis-first afterX (at + 2) ty0 dy level (wordAt table (from + 4)) in-y)
 
-    pub put-7 : getD (putEntry prep at table from level dx dy tx0 ty0) (at + 7) 0 ≡ wordAt table (from + 8) * wordAt table (from + 12)
-    unfolding putEntry
-    put-7 = getD-set-same afterY (at + 7) _ 0 (rw length-y room)
+-- of a component: its precincts are counted by its entry
+pub entry-count : (s : Sheet) (table : List ℕ) (base c n dx dy tx0 ty0 : ℕ) → Component s table base c n dx dy tx0 ty0 → (r : ℕ) → r < n
+    → wordAt table (base + 16 * r + 8) * wordAt table (base + 16 * r + 12) ≡ precincts s c r
+entry-count s table base c n dx dy tx0 ty0 h r k = rw (h .word-wide r k, h .word-high r k, precincts-of s c r (rw (h .resolutions) at k))
 
--- of a component
-module _ (s : Sheet) (prep table : List ℕ) (base c n dx dy tx0 ty0 : ℕ) (h : Component s table base c n dx dy tx0 ty0) (len : length prep ≡ 4224) (r : ℕ) (k : r < n) where
+module _ (s : Sheet) (prep table : List ℕ) (base c n dx dy tx0 ty0 : ℕ) (h : Component s table base c n dx dy tx0 ty0) (len : length prep ≡ 3696) (r : ℕ) (k : r < n) where
   abbrev place : ℕ
-  place = 8 * (16 * r + c)
+  place = 7 * (16 * r + c)
 
   abbrev new : List ℕ
   new = putEntry prep place table (base + 16 * r) (n - 1 - r) dx dy tx0 ty0
 
-  fits : place + 7 < length prep
+  fits : place + 6 < length prep
   fits = omega (arith, h .levels, h .components)
 
-  counted : wordAt table (base + 16 * r + 8) * wordAt table (base + 16 * r + 12) ≡ precincts s c r
-  counted = rw (h .word-wide r k, h .word-high r k, precincts-of s c r (rw (h .resolutions) at k))
-
   -- it is in range
-  pub entry-in : ResolutionIn (8 * (16 * r + c)) table (base + 16 * r) (n - 1 - r) dx dy
+  pub entry-in : ResolutionIn (7 * (16 * r + c)) table (base + 16 * r) (n - 1 - r) dx dy
   entry-in =
       record {
         room = omega (arith, h .levels, h .components);
@@ -198,40 +195,33 @@ module _ (s : Sheet) (prep table : List ℕ) (base c n dx dy tx0 ty0 : ℕ) (h :
       }
 
   -- its numbers are right
-  pub entry-filled : Filled s (putEntry prep (8 * (16 * r + c)) table (base + 16 * r) (n - 1 - r) dx dy tx0 ty0) r c
+  pub entry-filled : Filled s (putEntry prep (7 * (16 * r + c)) table (base + 16 * r) (n - 1 - r) dx dy tx0 ty0) r c
   entry-filled =
-      record {
-        number = put-7 prep place table _ _ dx dy tx0 ty0 fits ∙ counted;
-        entry = λ p. record { wide = put-0 prep place table _ _ dx dy tx0 ty0 fits ∙ rw (counted, h .word-wide r k); lines = λ z. lines (p z .0) (p z .1) };
-      }
+      λ p. record { wide = put-0 prep place table _ _ dx dy tx0 ty0 fits ∙ rw (entry-count s table base c n dx dy tx0 ty0 h r k, h .word-wide r k); lines = λ z. lines (p z .0) (p z .1) }
 
   -- and nothing else was written
-  pub entry-kept : Kept prep (putEntry prep (8 * (16 * r + c)) table (base + 16 * r) (n - 1 - r) dx dy tx0 ty0) r (r + 1) c
+  pub entry-kept : Kept prep (putEntry prep (7 * (16 * r + c)) table (base + 16 * r) (n - 1 - r) dx dy tx0 ty0) r (r + 1) c
   entry-kept q i j a b f =
       let u = h .components in
-      entry-rest prep place table _ _ dx dy tx0 ty0 (8 * (16 * q + i) + j) (λ x y. f (omega arith) (omega arith) (omega arith))
+      entry-rest prep place table _ _ dx dy tx0 ty0 (7 * (16 * q + i) + j) (λ x y. f (omega arith) (omega arith) (omega arith))
 
 -- WHAT STAYS
-filled-kept : (s : Sheet) (old new : List ℕ) (r c : ℕ) → ((j : ℕ) → j < 8 → field new r c j ≡ field old r c j) → Filled s old r c → Filled s new r c
-filled-kept s old new r c e f =
-    let z : 8 * (16 * r + c) ≡ 8 * (16 * r + c) + 0 = omega arith in
+filled-kept : (s : Sheet) (old new : List ℕ) (r c : ℕ) → ((j : ℕ) → j < 7 → field new r c j ≡ field old r c j) → Filled s old r c → Filled s new r c
+filled-kept s old new r c e f p =
+    let z : 7 * (16 * r + c) ≡ 7 * (16 * r + c) + 0 = omega arith in
     let w : widthIn new r c ≡ widthIn old r c = rw z (e 0 (omega arith)) in
+    let g = f p in
     record {
-      number = e 7 (omega arith) ∙ f .number;
-      entry = λ p.
-          let g = f .entry p in
+      wide = w ∙ g .wide;
+      lines = λ h.
+          let l = g .lines h in
           record {
-            wide = w ∙ g .wide;
-            lines = λ h.
-                let l = g .lines h in
-                record {
-                  step-x = e 1 (omega arith) ∙ l .step-x;
-                  step-y = e 2 (omega arith) ∙ l .step-y;
-                  start-x = e 3 (omega arith) ∙ l .start-x;
-                  start-y = e 4 (omega arith) ∙ l .start-y;
-                  first-x = e 5 (omega arith) ∙ l .first-x;
-                  first-y = e 6 (omega arith) ∙ l .first-y;
-                };
+            step-x = e 1 (omega arith) ∙ l .step-x;
+            step-y = e 2 (omega arith) ∙ l .step-y;
+            start-x = e 3 (omega arith) ∙ l .start-x;
+            start-y = e 4 (omega arith) ∙ l .start-y;
+            first-x = e 5 (omega arith) ∙ l .first-x;
+            first-y = e 6 (omega arith) ∙ l .first-y;
           };
     }
 
@@ -250,9 +240,9 @@ filled-more s prep new r c h k f g q p =
 
 pub done-more : (t : Sheet) (old prep table : List ℕ) (base c n dx dy tx0 ty0 : ℕ) → Component t table base c n dx dy tx0 ty0 → (r : ℕ) → r < n
     → Done table base c n dx dy tx0 ty0 old prep r
-    → Done table base c n dx dy tx0 ty0 old (putEntry prep (8 * (16 * r + c)) table (base + 16 * r) (n - 1 - r) dx dy tx0 ty0) (r + 1)
+    → Done table base c n dx dy tx0 ty0 old (putEntry prep (7 * (16 * r + c)) table (base + 16 * r) (n - 1 - r) dx dy tx0 ty0) (r + 1)
 done-more t old prep table base c n dx dy tx0 ty0 g r k d =
-    let new = putEntry prep (8 * (16 * r + c)) table (base + 16 * r) (n - 1 - r) dx dy tx0 ty0 in
+    let new = putEntry prep (7 * (16 * r + c)) table (base + 16 * r) (n - 1 - r) dx dy tx0 ty0 in
     let z : Kept prep new r (r + 1) c = entry-kept t prep table base c n dx dy tx0 ty0 g (d .long) r k in
     record {
       long = entry-length prep _ table _ _ dx dy tx0 ty0 ∙ d .long;
@@ -293,12 +283,9 @@ pub all-filled : (s : Sheet) (old new table : List ℕ) (k : ℕ) (dx dy resolut
 all-filled s old new table k dx dy resolutions tx0 ty0 m a z c r h =
     ⊎-elim
     (λ p.
-    let e : (j : ℕ) → j < 8 → field new r c j ≡ 0 = λ j q. a .kept r c j (omega (arith, m .most)) q (λ x y. omega arith) ∙ z _ in
+    let e : (j : ℕ) → j < 7 → field new r c j ≡ 0 = λ j q. a .kept r c j (omega (arith, m .most)) q (λ x y. omega arith) ∙ z _ in
     let n : precincts s c r ≡ 0 = rw (le-ltb r (resOf (s .st) c) (rw (m .each c h .resolutions) at p)) in
-    let i : 8 * (16 * r + c) ≡ 8 * (16 * r + c) + 0 = omega arith in
-    record {
-      number = e 7 (omega arith) ∙ sym n;
-      entry = λ f. record { wide = rw (i, n) (e 0 (omega arith)); lines = λ q. absurd (omega arith) };
-    })
+    let i : 7 * (16 * r + c) ≡ 7 * (16 * r + c) + 0 = omega arith in
+    λ f. record { wide = rw (i, n) (e 0 (omega arith)); lines = λ q. absurd (omega arith) })
     (λ p. a .filled s m c r h p)
     (le-or-lt (getD resolutions c 0) r)

@@ -1,6 +1,6 @@
 -- A sound state can be prepared, and what is prepared from it serves the walks by points where its steps fit. Assumes nothing.
 use Prim.Native.Nat.{ℕ, _-_, _*_, _≤_, _<_}
-use mathlib.Core.Path.{refl, ap, _∙_}
+use mathlib.Core.Path.{_≡_, refl, ap, _∙_}
 use mathlib.Core.List.{List}
 use mathlib.Core.Logic.{⊎-elim}
 use native.Mathlib.Omega.{arith}
@@ -19,7 +19,14 @@ use Rattle.packets.specs.Meaning.{StepsFit, Sound, sound-means, sound-good}
 use Rattle.packets.specs.declared.state.State.{State}
 use Rattle.packets.specs.declared.cursor.Position.{Position}
 use Rattle.walks.specs.Prepared.{InPlay}
-use Rattle.walks.specs.Prepare.{Filled, Components}
+use Rattle.walks.specs.Prepare.{Filled, Components, AllDone}
+use Rattle.walks.specs.Filling.{all-filled}
+
+-- the numbers of a state's tile are prepared
+pub record AllFilled (st : State) (table prep : List ℕ) : Type 0 where
+  pub filled : (c r : ℕ) → c < st .components → Filled (sheetAt st table) prep r c
+  pub ends-x : st .tx1 ≤ 4294967295
+  pub ends-y : st .ty1 ≤ 4294967295
 
 module _ (st : State) (table marks : List ℕ) (w : Sound st table marks) where
   good : Good (sheetAt st table)
@@ -72,17 +79,28 @@ module _ (st : State) (table marks : List ℕ) (w : Sound st table marks) where
             };
       }
 
+  -- in an array of zeros
+  pub sound-filled : (old prep : List ℕ)
+      → AllDone table (st .components) (st .dx) (st .dy) (st .resolutions) (st .tx0) (st .ty0) old prep (st .components)
+      → ((i : ℕ) → getD old i 0 ≡ 0) → st .tx1 ≤ 4294967295 → st .ty1 ≤ 4294967295 → AllFilled st table prep
+  sound-filled old prep done clear x y =
+      record {
+        filled = all-filled (sheetAt st table) old prep table (st .components) (st .dx) (st .dy) (st .resolutions) (st .tx0) (st .ty0) sound-components done clear;
+        ends-x = x;
+        ends-y = y;
+      }
+
   -- THEN ANY RANGE IS IN PLAY whose steps fit, as an agreed grid says
-  pub sound-play : (prep : List ℕ) (r0 r1 c0 c1 : ℕ) → StepsFit (sheetAt st table) → ((c r : ℕ) → c < st .components → Filled (sheetAt st table) prep r c)
-      → r1 ≤ 33 → c1 ≤ st .components → st .tx1 ≤ 4294967295 → st .ty1 ≤ 4294967295 → InPlay (sheetAt st table) prep r0 r1 c0 c1
-  sound-play prep r0 r1 c0 c1 fits filled a b x y =
+  pub sound-play : (prep : List ℕ) (r0 r1 c0 c1 : ℕ) → StepsFit (sheetAt st table) → AllFilled st table prep → r1 ≤ 33 → c1 ≤ st .components
+      → InPlay (sheetAt st table) prep r0 r1 c0 c1
+  sound-play prep r0 r1 c0 c1 fits p a b =
       record {
         good = good;
         resolutions = a;
         components = omega (arith, w .tile .components .1);
         known = b;
-        entry = λ r c p q i j. filled c r (omega arith) .entry (λ z. fits c (omega arith) r (precincts-in (sheetAt st table) c r z));
-        few = λ r c p q i j. few-precincts c r (omega arith);
-        ends-x = x;
-        ends-y = y;
+        entry = λ r c h k i j. p .filled c r (omega arith) (λ z. fits c (omega arith) r (precincts-in (sheetAt st table) c r z));
+        few = λ r c h k i j. few-precincts c r (omega arith);
+        ends-x = p .ends-x;
+        ends-y = p .ends-y;
       }

@@ -1,21 +1,19 @@
 -- The layers of a precinct that is met at a point, listed one after the other. Assumes nothing.
 use mathlib.Core.Path.{_≡_, sym, _∙_}
-use mathlib.Core.List.{List, []}
+use mathlib.Core.List.{List}
 use Prim.Native.Nat.{ℕ, _+_, _*_, _≤_, _<_}
-use native.Mathlib.Omega.{arith}
 use lib.ListN.{length, getD}
 use Rattle.laws.specs.Runs.{unlisted}
 use Rattle.packets.specs.Tile.{Sheet, indexOf}
 use Rattle.packets.specs.Orders.{Range}
 use Rattle.packets.specs.Good.{Good}
 use Rattle.packets.specs.Inside.{Inside}
-use Rattle.packets.specs.declared.cursor.Position.{Position}
 use Rattle.walks.specs.Prepared.{cellOf}
 use Rattle.walks.specs.InRow.{rowOf, RowPoint}
 use Rattle.walks.specs.Turns.{Stands, at-point, met-inside, cell-met, cell-missed}
 use Rattle.walks.specs.declared.cell.Cell.{Cell}
 use Rattle.walks.specs.declared.cell.Cell.the-variants.{At, Nothing}
-use Rattle.walks.specs.Walk.{Ranged, Ready, ranged-long}
+use Rattle.walks.specs.Walk.{Ranged, Ready}
 use Rattle.walks.specs.Marks.{markBy, same-mark, fits-mark, has-mark}
 use Rattle.walks.specs.Going.{Rest}
 use Rattle.walks.specs.AtPoint.{packetOf, leftK, leftL, meets, misses}
@@ -31,10 +29,6 @@ pub record Layered (s : Sheet) (g : Range) (w : Walk) (marks : List ℕ) (r c x 
 abbrev pub SomeLayers : Walk → List ℕ → ℕ → ℕ → ℕ → ℕ → ℕ → ℕ → Type 0
 SomeLayers w marks r c x y k n =
     (s : Sheet) × ((g : Range) × ((o : Rest) × Layered s g w marks r c x y k × (n + length (unlisted (indexOf (s .st)) marks (leftL o r c x y k 0 s g)) ≤ 65536)))
-
-pub layered-long : (s : Sheet) (g : Range) (w : Walk) (marks other : List ℕ) (r c x y k : ℕ) → length other ≡ length marks
-    → Layered s g w marks r c x y k → Layered s g w other r c x y k
-layered-long s g w marks other r c x y k e d = record { ranged = ranged-long s g w marks other e (d .ranged); good = d .good; inside = d .inside }
 
 -- the mark of one of its layers
 module _ (s : Sheet) (g : Range) (w : Walk) (marks : List ℕ) (r c x y k : ℕ) (d : Layered s g w marks r c x y k) (l : ℕ) (h : l < w .layno1) where

@@ -4,6 +4,7 @@ pub mod Cells
 pub mod Prepare
 pub mod Filling
 pub mod FromSound
+pub mod Counting
 pub mod InRow
 pub mod Nexts
 pub mod Walk

@@ -1,18 +1,17 @@
 -- The plan of a progression, made once: its order and its walk; and that a search by it finds what is behind a place. Assumes nothing.
 use mathlib.Core.Path.{_≡_, refl, sym, ap, _∙_}
-use mathlib.Core.Bool.{Bool, true, false, true≢false, _&&_}
+use mathlib.Core.Bool.{Bool, true, false, true≢false}
 use mathlib.Core.List.{List, [], _∷_, List·Memᴰ as In, List·Memᴰ·head as here}
 use mathlib.Core.Logic.{⊎-elim}
 use native.Mathlib.Omega.{arith}
-use Prim.Native.Nat.{ℕ, _*_, _≤_, _<_}
-use lib.ListN.{length}
+use Prim.Native.Nat.{ℕ, _≤_, _<_}
 use lib.Dec.{eqb, ltb}
 use Rattle.laws.specs.Cases.{split, and-true}
 use Rattle.laws.specs.Means.{eqb-means, leb-means}
 use Rattle.geometry.specs.Precinct.{pick}
 use Rattle.packets.specs.Tile.{Sheet, indexOf, resOf, maxRes, strideC, strideR, strideL}
 use Rattle.packets.specs.Orders.{Order, lrcp, rlcp, rpcl, pcrl, cprl, other, Range, pickRange, wholeTile, volume, rangeOf, orderOf, componentsGood}
-use Rattle.packets.specs.Positions.{hasPositions, positionsIn}
+use Rattle.packets.specs.Positions.{hasPositions}
 use Rattle.packets.specs.Table.{sheetAt}
 use Rattle.packets.specs.Grid.{changeOf}
 use Rattle.packets.specs.Sound.{positionsFor}
@@ -32,10 +31,10 @@ use Rattle.packets.specs.declared.cursor.Position.{Position}
 use Rattle.sheets.specs.Ranges.{orderNumber, rangeIn, rangeFor, range-for}
 use Rattle.sheets.specs.declared.ranges.Range as ranges
 use Rattle.laws.specs.Below.{max-least}
-use Rattle.walks.specs.Prepare.{Filled}
-use Rattle.walks.specs.FromSound.{sound-play}
-use Rattle.walks.specs.Walk.{Ranged, Counted, Ready}
-use Rattle.walks.specs.Search.{known-by, Ordered}
+use Rattle.walks.specs.FromSound.{AllFilled, sound-play}
+use Rattle.walks.specs.Walk.{Ranged}
+use Rattle.walks.specs.Counting.{AllCounted}
+use Rattle.walks.specs.Search.{known-by, Ordered, Searched}
 use Rattle.walks.specs.declared.walk.Walk.{Walk}
 use Rattle.walks.specs.declared.plan.Plan.{Plan}
 
@@ -65,20 +64,19 @@ none-in : (ps : List Position) → ((p : Position) → In p ps → ⊥) → ps �
 none-in [] f = refl
 none-in (p ∷ ps) f = absurd (f p (here refl))
 
--- a progression of a sound state, planned, with the numbers of its tile prepared
-pub record Planned (st : State) (table : List ℕ) (k : ℕ) (prep : List ℕ) (plan : Plan) (marks : List ℕ) : Type 0 where
+-- a progression of a sound state, planned, with the precincts of its tile counted
+pub record Planned (st : State) (table : List ℕ) (k : ℕ) (counts : List ℕ) (plan : Plan) (marks : List ℕ) : Type 0 where
   pub sound : Sound st table marks
-  pub filled : (c r : ℕ) → c < st .components → Filled (sheetAt st table) prep r c
+  pub counted : AllCounted st table counts
   pub known : k < st .progressions
   pub order : plan .order ≡ orderIn st (changeOf st k)
-  pub ends-x : st .tx1 ≤ 4294967295
-  pub ends-y : st .ty1 ≤ 4294967295
   pub walk : plan .walk ≡ walkFor st (rangeOf st (changeOf st k))
 
-abbrev pub SomePlan : List ℕ → Plan → List ℕ → Place → Type 0
-SomePlan prep plan marks q = (st : State) × ((table : List ℕ) × ((k : ℕ) × Planned st table k prep plan marks × Admitted q (positionsFor st table k)))
+abbrev pub SomePlan : List ℕ → List ℕ → Plan → List ℕ → Place → Type 0
+SomePlan counts prep plan marks q =
+    (st : State) × ((table : List ℕ) × ((k : ℕ) × Planned st table k counts plan marks × AllFilled st table prep × Admitted q (positionsFor st table k)))
 
-module _ (st : State) (table : List ℕ) (k : ℕ) (prep : List ℕ) (plan : Plan) (marks : List ℕ) (d : Planned st table k prep plan marks) where
+module _ (st : State) (table : List ℕ) (k : ℕ) (counts : List ℕ) (plan : Plan) (marks : List ℕ) (d : Planned st table k counts plan marks) where
   abbrev s : Sheet
   s = sheetAt st table
 
@@ -149,7 +147,7 @@ module _ (st : State) (table : List ℕ) (k : ℕ) (prep : List ℕ) (plan : Pla
           enough = d .sound .marks-long;
         })
 
-    pub planned-ordered : Ordered s g prep (plan .walk) marks (plan .order) o
+    pub planned-ordered : Ordered s g counts (plan .walk) marks (plan .order) o
     planned-ordered =
         record {
           counted =
@@ -158,21 +156,26 @@ module _ (st : State) (table : List ℕ) (k : ℕ) (prep : List ℕ) (plan : Pla
                 good = good;
                 resolutions = range-deep;
                 components = omega (arith, ranged .components, d .sound .tile .components .1);
-                counts = λ r c i j m l. d .filled c r (omega (arith, ranged .components)) .number;
+                number = λ r c i j m l. d .counted c r (omega (arith, ranged .components));
               };
+          number = is-order;
+          has = good-has s g o (λ e. n (sym is-order ∙ ap orderNumber e)) fine;
+        }
+
+    -- with its numbers prepared it can be searched
+    pub planned-searched : {prep : List ℕ} → AllFilled st table prep → Searched s g counts prep (plan .walk) marks (plan .order) o
+    planned-searched {prep} p =
+        record {
+          ordered = planned-ordered;
           ready = λ b.
               record {
                 ranged = ranged;
                 play = sound-play st table marks (d .sound) prep (g .resno0) (g .resno1) (g .compno0) (g .compno1)
                     (fit o b (d .sound .grid k (d .known)))
-                    (d .filled)
+                    p
                     range-deep
-                    (ranged .components)
-                    (d .ends-x)
-                    (d .ends-y);
+                    (ranged .components);
               };
-          number = is-order;
-          has = good-has s g o (λ e. n (sym is-order ∙ ap orderNumber e)) fine;
         }
 
   -- a plan without one has no positions

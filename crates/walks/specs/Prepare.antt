@@ -14,7 +14,7 @@ use Rattle.walks.specs.Prepared.{field, Entry}
 
 -- an axis that is prepared at place at: a component's step d, a level and an exponent in range
 pub record AxisIn (at d level pd : ℕ) : Type 0 where
-  pub room : at + 4 < 4224
+  pub room : at + 4 < 3696
   pub some : 1 ≤ d
   pub small : d ≤ 255
   pub levels : level ≤ 32
@@ -28,7 +28,7 @@ putAxis prep at t d level pd =
 
 -- a resolution that is prepared from place at on: its entry stands at place from of a table
 pub record ResolutionIn (at : ℕ) (table : List ℕ) (from level dx dy : ℕ) : Type 0 where
-  pub room : at + 7 < 4224
+  pub room : at + 6 < 3696
   pub near : from < 18446744073709551600
   pub some-x : 1 ≤ dx
   pub small-x : dx ≤ 255
@@ -39,24 +39,20 @@ pub record ResolutionIn (at : ℕ) (table : List ℕ) (from level dx dy : ℕ) :
   pub exponent-y : wordAt table (from + 4) ≤ 15
   pub few : wordAt table (from + 8) * wordAt table (from + 12) ≤ 65536
 
--- its eight numbers
+-- its seven numbers
 unfoldable pub putEntry : List ℕ → ℕ → List ℕ → ℕ → ℕ → ℕ → ℕ → ℕ → ℕ → List ℕ
 putEntry prep at table from level dx dy tx0 ty0 =
     let wide = wordAt table (from + 8) in
     let count = wide * wordAt table (from + 12) in
-    set
-    (putAxis (putAxis (set prep at (pick (ltb 0 count) wide 0)) (at + 1) tx0 dx level (wordAt table from)) (at + 2) ty0 dy level (wordAt table (from + 4)))
-    (at + 7)
-    count
+    putAxis (putAxis (set prep at (pick (ltb 0 count) wide 0)) (at + 1) tx0 dx level (wordAt table from)) (at + 2) ty0 dy level (wordAt table (from + 4))
 
 -- the steps of a resolution that has precincts fit 32 bits
 abbrev pub Fitting : Sheet → ℕ → ℕ → Type 0
 Fitting s c r = 0 < precincts s c r → (stepX s c r ≤ 4294967295) × (stepY s c r ≤ 4294967295)
 
--- what is written of a resolution: the number of its precincts, and where its steps fit all that a walk by points needs
-pub record Filled (s : Sheet) (prep : List ℕ) (r c : ℕ) : Type 0 where
-  pub number : field prep r c 7 ≡ precincts s c r
-  pub entry : Fitting s c r → Entry s prep r c
+-- what is written of a resolution, where its steps fit: all that a walk by points needs
+abbrev pub Filled : Sheet → List ℕ → ℕ → ℕ → Type 0
+Filled s prep r c = Fitting s c r → Entry s prep r c
 
 -- component c of a sheet, with n resolutions and steps dx and dy in a tile that starts at (tx0, ty0): its entries stand in a table from place base on
 pub record Component (s : Sheet) (table : List ℕ) (base c n dx dy tx0 ty0 : ℕ) : Type 0 where
@@ -85,11 +81,11 @@ SomeComponent table base c n dx dy tx0 ty0 = (s : Sheet) × Component s table ba
 
 -- nothing but the numbers of resolutions r0 to r1 of component c was written
 abbrev pub Kept : List ℕ → List ℕ → ℕ → ℕ → ℕ → Type 0
-Kept old new r0 r1 c = (r i j : ℕ) → i < 16 → j < 8 → ((r0 ≤ r) → (r < r1) → (i ≡ c) → ⊥) → field new r i j ≡ field old r i j
+Kept old new r0 r1 c = (r i j : ℕ) → i < 16 → j < 7 → ((r0 ≤ r) → (r < r1) → (i ≡ c) → ⊥) → field new r i j ≡ field old r i j
 
 -- the first m resolutions of a component are prepared, and nothing else was written
 pub record Done (table : List ℕ) (base c n dx dy tx0 ty0 : ℕ) (old new : List ℕ) (m : ℕ) : Type 0 where
-  pub long : length new ≡ 4224
+  pub long : length new ≡ 3696
   pub kept : Kept old new 0 m c
   pub filled : (s : Sheet) → Component s table base c n dx dy tx0 ty0 → (r : ℕ) → r < m → Filled s new r c
 
@@ -106,10 +102,10 @@ SomeComponents table k dx dy resolutions tx0 ty0 = (s : Sheet) × Components s t
 
 -- nothing but the numbers of the resolutions of the first k components was written
 abbrev pub KeptBeyond : List ℕ → List ℕ → List ℕ → ℕ → Type 0
-KeptBeyond old new resolutions k = (r i j : ℕ) → i < 16 → j < 8 → ((i < k) → (r < getD resolutions i 0) → ⊥) → field new r i j ≡ field old r i j
+KeptBeyond old new resolutions k = (r i j : ℕ) → i < 16 → j < 7 → ((i < k) → (r < getD resolutions i 0) → ⊥) → field new r i j ≡ field old r i j
 
 -- the first m components are prepared, and nothing else was written
 pub record AllDone (table : List ℕ) (k : ℕ) (dx dy resolutions : List ℕ) (tx0 ty0 : ℕ) (old new : List ℕ) (m : ℕ) : Type 0 where
-  pub long : length new ≡ 4224
+  pub long : length new ≡ 3696
   pub kept : KeptBeyond old new resolutions m
   pub filled : (s : Sheet) → Components s table k dx dy resolutions tx0 ty0 → (c r : ℕ) → c < m → r < getD resolutions c 0 → Filled s new r c

@@ -1,13 +1,12 @@
--- The numbers that a run prepares once for each component and resolution, what they stand for, and what they answer at a point.
+-- The numbers that are prepared once for each component and resolution, what they stand for, and what they answer at a point.
 use Prim.Native.Nat.{ℕ, _+_, _*_, _%_, _≤_, _<_}
 use mathlib.Core.Path.{_≡_}
 use mathlib.Core.Bool.{Bool, true, false, _||_}
 use mathlib.Core.List.{List}
-use lib.ListN.{length, getD}
+use lib.ListN.{getD}
 use lib.Dec.{ltb, eqb}
 use Rattle.geometry.specs.Precinct.{pick}
 use Rattle.geometry.specs.Line.{Line, whole, first}
-use Rattle.packets.specs.State.{origin}
 use Rattle.packets.specs.Tile.{Sheet, lineX, lineY, width, precincts}
 use Rattle.packets.specs.Orders.{Range}
 use Rattle.packets.specs.Grid.{stepX, stepY}
@@ -18,13 +17,17 @@ use Rattle.walks.specs.declared.cell.Cell.{Cell}
 use Rattle.walks.specs.declared.cell.Cell.the-variants.{At, Nothing}
 
 -- prepared number j of resolution r of component c: 0 width (0 where there is no precinct), 1 and 2 steps x and y, 3 and 4 the tile's start where it lies inside
--- a precinct, 5 and 6 first column and row, 7 the number of precincts
+-- a precinct, 5 and 6 first column and row
 abbrev pub field : List ℕ → ℕ → ℕ → ℕ → ℕ
-field prep r c j = getD prep (8 * (16 * r + c) + j) 0
+field prep r c j = getD prep (7 * (16 * r + c) + j) 0
 
 -- number 0, where the code reads it
 abbrev pub widthIn : List ℕ → ℕ → ℕ → ℕ
-widthIn prep r c = getD prep (8 * (16 * r + c)) 0
+widthIn prep r c = getD prep (7 * (16 * r + c)) 0
+
+-- the number of precincts of resolution r of component c, by an array of counts
+abbrev pub countIn : List ℕ → ℕ → ℕ → ℕ
+countIn counts r c = getD counts (16 * r + c) 0
 
 -- the tile's start where it lies inside a precinct, else 2^32 - 1, which no point is
 abbrev pub insideStart : Line → ℕ

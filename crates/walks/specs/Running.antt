@@ -4,7 +4,7 @@ use mathlib.Core.List.{List, [], _∷_, _++_, List·Memᴰ as In}
 use native.Mathlib.Omega.{arith}
 use Prim.Native.Nat.{ℕ, _+_, _*_, _≤_, _<_}
 use lib.ListN.{length, length-append}
-use Rattle.laws.specs.Runs.{mark, unlisted, marked}
+use Rattle.laws.specs.Runs.{unlisted, marked}
 use Rattle.laws.specs.Listing.{unlisted-append, marked-append}
 use Rattle.packets.specs.Tile.{needed, indexOf}
 use Rattle.packets.specs.Table.{sheetAt}
@@ -17,6 +17,7 @@ use Rattle.packets.specs.Run.{layers-within}
 use Rattle.packets.specs.declared.state.State.{State}
 use Rattle.packets.specs.declared.cursor.Position.{Position}
 use Rattle.walks.specs.Records.{putPacket, putPackets}
+use Rattle.walks.specs.FromSound.{AllFilled}
 use Rattle.walks.specs.Plan.{Planned}
 use Rattle.walks.specs.declared.plan.Plan.{Plan}
 
@@ -36,8 +37,13 @@ totalOf ix m o n left = leaving ix m o n (unlisted ix m left)
 
 -- some progression is planned, and its packets are few
 abbrev pub SomeRun : List ℕ → Plan → List ℕ → ℕ → Type 0
-SomeRun prep plan marks n =
-    (st : State) × ((table : List ℕ) × ((k : ℕ) × Planned st table k prep plan marks × (n + length (unlisted (indexOf st) marks (positionsFor st table k)) ≤ 65536)))
+SomeRun counts plan marks n =
+    (st : State) × ((table : List ℕ) × ((k : ℕ) × Planned st table k counts plan marks × (n + length (unlisted (indexOf st) marks (positionsFor st table k)) ≤ 65536)))
+
+-- .. and its numbers are prepared
+abbrev pub SomeFilledRun : List ℕ → List ℕ → Plan → List ℕ → ℕ → Type 0
+SomeFilledRun counts prep plan marks n =
+    (st : State) × ((table : List ℕ) × ((k : ℕ) × Planned st table k counts plan marks × AllFilled st table prep × (n + length (unlisted (indexOf st) marks (positionsFor st table k)) ≤ 65536)))
 
 -- records written in two goes
 puts-append : (o : List ℕ) (n : ℕ) (u v : List Position) → putPackets o n (u ++ v) ≡ putPackets (putPackets o n u) (n + length u) v

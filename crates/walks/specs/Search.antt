@@ -141,19 +141,23 @@ module _ (o : Order) (p : Position) (n : ℕ) (e : orderNumber o ≡ n) where
       of other e = absurd (k (sym e))
 
 -- a progression with positions, of the order with this number
-pub record Ordered (s : Sheet) (g : Range) (prep : List ℕ) (w : Walk) (marks : List ℕ) (n : ℕ) (o : Order) : Type 0 where
-  pub counted : Counted s g prep w marks
-  pub ready : byPoints o ≡ true → Ready s g prep w marks
+pub record Ordered (s : Sheet) (g : Range) (counts : List ℕ) (w : Walk) (marks : List ℕ) (n : ℕ) (o : Order) : Type 0 where
+  pub counted : Counted s g counts w marks
   pub number : orderNumber o ≡ n
   pub has : hasPositions s g o ≡ true
 
-abbrev pub SomeStart : List ℕ → Walk → List ℕ → ℕ → Position → Type 0
-SomeStart prep w marks n p = (s : Sheet) × ((g : Range) × ((o : Order) × Ordered s g prep w marks n o × Startable o w p))
+-- .. that can be searched: where its order is by points, its ranges are prepared
+pub record Searched (s : Sheet) (g : Range) (counts prep : List ℕ) (w : Walk) (marks : List ℕ) (n : ℕ) (o : Order) : Type 0 where
+  pub ordered : Ordered s g counts w marks n o
+  pub ready : byPoints o ≡ true → Ready s g prep w marks
 
-abbrev pub SomePlace : List ℕ → Walk → List ℕ → ℕ → Place → Type 0
-SomePlace prep w marks n q = (s : Sheet) × ((g : Range) × ((o : Order) × Ordered s g prep w marks n o × Admitted q (positionsIn s g o)))
+abbrev pub SomeStart : List ℕ → List ℕ → Walk → List ℕ → ℕ → Position → Type 0
+SomeStart counts prep w marks n p = (s : Sheet) × ((g : Range) × ((o : Order) × Searched s g counts prep w marks n o × Startable o w p))
 
-module _ (s : Sheet) (g : Range) (prep : List ℕ) (w : Walk) (marks : List ℕ) (n : ℕ) (o : Order) (d : Ordered s g prep w marks n o) where
+abbrev pub SomePlace : List ℕ → List ℕ → Walk → List ℕ → ℕ → Place → Type 0
+SomePlace counts prep w marks n q = (s : Sheet) × ((g : Range) × ((o : Order) × Searched s g counts prep w marks n o × Admitted q (positionsIn s g o)))
+
+module _ (s : Sheet) (g : Range) (counts : List ℕ) (w : Walk) (marks : List ℕ) (n : ℕ) (o : Order) (d : Ordered s g counts w marks n o) where
   first-starts : (o : Order) → startsFrom s o (firstOf w) ≡ freshStarts s g o
   first-starts lrcp = let q = d .counted .ranged in rw (q .resno0, q .compno0)
   first-starts rlcp = let q = d .counted .ranged in rw (q .resno0, q .compno0)

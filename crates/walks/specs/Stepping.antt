@@ -1,16 +1,15 @@
 -- A step: from a sound call to a planned progression, and from what was found to what the step answers. Assumes nothing.
 use mathlib.Core.Path.{_≡_, refl, sym, ap, _∙_}
-use mathlib.Core.Bool.{true, false}
-use mathlib.Core.List.{List, [], _∷_, List·Memᴰ as In}
+use mathlib.Core.Bool.{true}
+use mathlib.Core.List.{List, List·Memᴰ as In}
 use native.Mathlib.Omega.{arith}
 use Prim.Native.Nat.{ℕ, zero, suc, _*_, _≤_, _<_}
-use lib.ListN.{length, getD, set, replicate}
+use lib.ListN.{getD, replicate}
 use Rattle.laws.specs.Below.{max-at}
 use Rattle.laws.specs.Runs.{Answer, Packet, Ended, seek, found-in}
-use Rattle.packets.specs.Tile.{resOf, maxRes, strideC, strideR, strideL, needed, indexOf}
+use Rattle.packets.specs.Tile.{resOf, maxRes, strideR, strideL, needed, indexOf}
 use Rattle.packets.specs.Orders.{rangeOf}
 use Rattle.packets.specs.Grid.{changeOf}
-use Rattle.packets.specs.Table.{sheetAt}
 use Rattle.packets.specs.Sound.{sound, positionsFor}
 use Rattle.packets.specs.Calls.{after, stepBy, stepOf}
 use Rattle.packets.specs.Meaning.{Sound, Admitted, all-sound-means}
@@ -20,10 +19,7 @@ use Rattle.packets.specs.declared.state.State.{State}
 use Rattle.packets.specs.declared.cursor.Position.{Position}
 use Rattle.packets.specs.declared.cursor.Cursor.{Cursor}
 use Rattle.packets.specs.declared.cursor.Place.{Place}
-use Rattle.packets.specs.declared.cursor.Place.the-variants as place
-use Rattle.walks.specs.Prepare.{AllDone, Components}
-use Rattle.walks.specs.Filling.{all-filled}
-use Rattle.walks.specs.FromSound.{sound-components}
+use Rattle.walks.specs.Counting.{AllWritten, sound-counts}
 use Rattle.walks.specs.Walk.{answerOf, indexBy}
 use Rattle.walks.specs.Marks.{markBy}
 use Rattle.walks.specs.Running.{mark-needed}
@@ -57,14 +53,12 @@ module _ (st : State) (table marks : List ℕ) (d : Sound st table marks) where
       let r = grows (st .«max_res») (strideR st) deepest-some in
       (omega (arith, d .few), omega (arith, d .few))
 
-  -- prepared and planned
-  pub planned : (k : ℕ) (old prep : List ℕ) (plan : Plan) → k < st .progressions
-      → AllDone table (st .components) (st .dx) (st .dy) (st .resolutions) (st .tx0) (st .ty0) old prep (st .components)
-      → ((i : ℕ) → getD old i 0 ≡ 0)
-      → plan .order ≡ orderIn st (changeOf st k) → plan .walk ≡ walkFor st (rangeOf st (changeOf st k)) → st .tx1 ≤ 4294967295 → st .ty1 ≤ 4294967295
-      → Planned st table k prep plan marks
-  planned k old prep plan h done clear o w x y =
-      record { sound = d; filled = all-filled (sheetAt st table) old prep table (st .components) (st .dx) (st .dy) (st .resolutions) (st .tx0) (st .ty0) (sound-components st table marks d) done clear; known = h; order = o; ends-x = x; ends-y = y; walk = w }
+  -- counted and planned
+  pub planned : (k : ℕ) (old counts : List ℕ) (plan : Plan) → k < st .progressions → AllWritten table (st .resolutions) old counts (st .components)
+      → ((i : ℕ) → getD old i 0 ≡ 0) → plan .order ≡ orderIn st (changeOf st k) → plan .walk ≡ walkFor st (rangeOf st (changeOf st k))
+      → Planned st table k counts plan marks
+  planned k old counts plan h done clear o w =
+      record { sound = d; counted = sound-counts st table marks old counts d done clear; known = h; order = o; walk = w }
 
 module _ (st : State) (table marks : List ℕ) (c : Cursor) (h : sound st table marks c ≡ true) where
   facts : Sound st table marks × ((c .progression < st .progressions) × Admitted (c .place) (positionsFor st table (c .progression)))
@@ -85,10 +79,10 @@ module _ (st : State) (table marks : List ℕ) (c : Cursor) (h : sound st table 
   stepped a e = ap (stepBy st marks (c .progression)) e ∙ sym (step-searches st table marks c h)
 
 -- the mark that is set is the packet's
-pub mark-at : (st : State) (table marks : List ℕ) (k : ℕ) (prep : List ℕ) (plan : Plan) (p : Position) → Planned st table k prep plan marks → In p (positionsFor st table k)
+pub mark-at : (st : State) (table marks : List ℕ) (k : ℕ) (counts : List ℕ) (plan : Plan) (p : Position) → Planned st table k counts plan marks → In p (positionsFor st table k)
     → (markBy (plan .walk) p ≡ indexOf st p) × (indexOf st p < needed st)
 unfolding indexBy indexOf
-mark-at st table marks k prep plan p d i = (rw (d .walk), mark-needed st table marks (d .sound) k p i)
+mark-at st table marks k counts plan p d i = (rw (d .walk), mark-needed st table marks (d .sound) k p i)
 
 -- what is found is one of the progression's
 pub found-listed : (ix : Position → ℕ) (ps : List Position) (marks : List ℕ) (q : Place) (p : Position) → Packet p ≡ seek ix marks (after q ps) → In p ps

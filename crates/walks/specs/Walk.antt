@@ -8,7 +8,7 @@ use Rattle.packets.specs.Tile.{Sheet, strideC, strideR, strideL, needed, precin
 use Rattle.packets.specs.Orders.{Range}
 use Rattle.packets.specs.Good.{Good}
 use Rattle.packets.specs.declared.cursor.Position.{Position}
-use Rattle.walks.specs.Prepared.{InPlay, field}
+use Rattle.walks.specs.Prepared.{InPlay, countIn}
 use Rattle.walks.specs.declared.walk.Walk.{Walk}
 use Rattle.walks.specs.declared.walk.Found.{Found}
 use Rattle.walks.specs.declared.walk.Found.the-variants as found
@@ -75,16 +75,16 @@ abbrev pub SomeReady : List ℕ → Walk → List ℕ → Type 0
 SomeReady prep w marks = (s : Sheet) × ((g : Range) × Ready s g prep w marks)
 
 -- a walk by precinct numbers: its precincts are counted too (that the sheet has the components is said by `ranged`)
-pub record Counted (s : Sheet) (g : Range) (prep : List ℕ) (w : Walk) (marks : List ℕ) : Type 0 where
+pub record Counted (s : Sheet) (g : Range) (counts : List ℕ) (w : Walk) (marks : List ℕ) : Type 0 where
   pub ranged : Ranged s g w marks
   pub good : Good s
   pub resolutions : g .resno1 ≤ 33
   pub components : g .compno1 ≤ 16
-  pub counts : (r c : ℕ) → g .resno0 ≤ r → r < g .resno1 → g .compno0 ≤ c → c < g .compno1 → field prep r c 7 ≡ precincts s c r
+  pub number : (r c : ℕ) → g .resno0 ≤ r → r < g .resno1 → g .compno0 ≤ c → c < g .compno1 → countIn counts r c ≡ precincts s c r
 
-pub counted-long : (s : Sheet) (g : Range) (prep : List ℕ) (w : Walk) (marks other : List ℕ) → length other ≡ length marks → Counted s g prep w marks → Counted s g prep w other
-counted-long s g prep w marks other e q =
-    record { ranged = ranged-long s g w marks other e (q .ranged); good = q .good; resolutions = q .resolutions; components = q .components; counts = q .counts }
+pub counted-long : (s : Sheet) (g : Range) (counts : List ℕ) (w : Walk) (marks other : List ℕ) → length other ≡ length marks → Counted s g counts w marks → Counted s g counts w other
+counted-long s g counts w marks other e q =
+    record { ranged = ranged-long s g w marks other e (q .ranged); good = q .good; resolutions = q .resolutions; components = q .components; number = q .number }
 
 abbrev pub SomeCounted : List ℕ → Walk → List ℕ → Type 0
-SomeCounted prep w marks = (s : Sheet) × ((g : Range) × Counted s g prep w marks)
+SomeCounted counts w marks = (s : Sheet) × ((g : Range) × Counted s g counts w marks)

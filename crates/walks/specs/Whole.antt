@@ -1,6 +1,5 @@
 -- The whole run: a refused setup ends it; an accepted one leaves a sound state, clear marks and room, so that all the runs list what 01 says. Assumes nothing.
 use mathlib.Core.Path.{_≡_, refl, sym, ap, _∙_, subst}
-use mathlib.Core.Bool.{Bool, true, false}
 use mathlib.Core.List.{List}
 use native.Mathlib.Omega.{arith}
 use Prim.Native.Nat.{ℕ, _-_, _*_, _≤_, _<_}
@@ -22,7 +21,7 @@ use Rattle.packets.specs.declared.answer.SetUp.{SetUp}
 use Rattle.sheets.specs.Refused.{negative}
 use Rattle.sheets.specs.Room.{roomVerdict, setupIn}
 use Rattle.walks.specs.Running.{Total, totalOf}
-use Rattle.walks.specs.RunAll.{Arranged, upTo, all-listed}
+use Rattle.walks.specs.RunAll.{fromOn, all-listed}
 
 module _ (sheet table marks output : List ℕ) where
   abbrev whole : Run
@@ -120,14 +119,13 @@ module _ (sheet table marks output : List ℕ) where
       done-room = subst (λ (u : Setup). 16 * needed (u .said .state) ≤ length output) (sym done-accepted) room
 
       -- what all the runs leave is what the whole run is to leave
-      pub run-left : {prep : List ℕ} → Arranged (r .state) t prep m → {n : ℕ} {mx ox : List ℕ}
-          → ((table : List ℕ) → Arranged (r .state) table prep m
-          → _≡_ {A = Total} (record { count = n; marks = mx; output = ox }) (totalOf (indexOf (r .state)) m output 0 (upTo (r .state) table (r .state .progressions))))
+      pub run-left : {n : ℕ} {mx ox : List ℕ}
+          → _≡_ {A = Total} (record { count = n; marks = mx; output = ox }) (totalOf (indexOf (r .state)) m output 0 (fromOn (r .state) t 0))
           → Left (pos n) t mx ox
       unfolding ranOver wholeRunOf
-      run-left {prep} d {n} {mx} {ox} ran =
+      run-left {n} {mx} {ox} ran =
           left (total (record { count = n; marks = mx; output = ox }))
-          (ap total (ran t d ∙ all-listed (r .state) t prep m output d done-clear done-room)
+          (ap total (ran ∙ all-listed (r .state) t m output done-sound done-clear done-room)
           ∙ ap (λ (u : Setup). ranOver u output) done-accepted
           ∙ rw (eq-eqb _ _ v) refl)
         where

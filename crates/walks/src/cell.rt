@@ -21,11 +21,11 @@ pub(crate) fn hits(z: u32, step: u32, start: u32) -> bool
 }
 
 // The precinct of component c at resolution r that is met at (x, y).
-pub(crate) fn cell_at(prep: &[u32; 4224], r: u32, c: u32, x: u32, y: u32) -> Cell
+pub(crate) fn cell_at(prep: &[u32; 3696], r: u32, c: u32, x: u32, y: u32) -> Cell
     requires { ⌜ SomePoint (now prep) r c x y ⌝ }
     ensures { λ o. ⌜ ((s : Sheet) → AtPoint s (now (prep .entry)) r c x y → o ≡ cellOf s r c x y) ⌝ }
 {
-    let at = 8 * (16 * (r as usize) + (c as usize));
+    let at = 7 * (16 * (r as usize) + (c as usize));
     let width = prep[at];
     if width == 0 {
         return Cell::Nothing;

@@ -19,7 +19,7 @@ ghost use Rattle.walks.specs.Cprl.{entry};
 // The first free position from (c, y, x, r, l) on.
 pub(crate) fn cprl(
     marks: &[u8],
-    prep: &[u32; 4224],
+    prep: &[u32; 3696],
     w: Walk,
     c_from: u32,
     y_from: u32,

@@ -17,12 +17,15 @@ ghost use Rattle.walks.specs.AtPoint.{leftK, leftL};
 ghost use Rattle.walks.specs.Listing.{listedOne, Listing};
 ghost use Rattle.walks.specs.Layers.{Layered, SomeLayers, Celled, SomeCell};
 
-// The record of a packet, as record n of the output.
+// The record of a packet, as record n of the output; where there is no room for all of it, nothing. (One test of the length, and none for each word.)
 fn put_packet(output: &mut [u8], n: u32, p: Position)
     requires { ⌜ n ≤ 65536 ⌝ }
     ensures { λ _. ⌜ now (output .exit) ≡ putPacket (now (output .entry)) (16 * n) p ⌝ }
 {
     let at = 16 * n as usize;
+    if output.len() < at + 16 {
+        return;
+    }
     put_word(output, at, p.layno);
     put_word(output, at + 4, p.resno);
     put_word(output, at + 8, p.compno);
@@ -80,7 +83,7 @@ pub(crate) fn list_layers(
 pub(crate) fn list_cell(
     marks: &mut [u8],
     output: &mut [u8],
-    prep: &[u32; 4224],
+    prep: &[u32; 3696],
     row: &[u32; 528],
     w: Walk,
     r: u32,

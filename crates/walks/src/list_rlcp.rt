@@ -15,12 +15,12 @@ ghost use Rattle.walks.specs.Listing.{SomeListing};
 pub(crate) fn list_rlcp(
     marks: &mut [u8],
     output: &mut [u8],
-    prep: &[u32; 4224],
+    counts: &[u32; 528],
     w: Walk,
     n: u32,
 ) -> u32
-    requires { ⌜ SomeListing (λ s g. Counted s g (now prep) w (now marks)) (wholly w) (now marks) n ⌝ }
-    ensures { λ r. ⌜ ((s : Sheet) (g : Range) → Counted s g (now (prep .entry)) w (now (marks .entry)) → _≡_ {A = Total} (record { count = r; marks = now (marks .exit); output = now (output .exit) }) (totalOf (indexOf (s .st)) (now (marks .entry)) (now (output .entry)) n (wholly w s g))) ⌝ }
+    requires { ⌜ SomeListing (λ s g. Counted s g (now counts) w (now marks)) (wholly w) (now marks) n ⌝ }
+    ensures { λ r. ⌜ ((s : Sheet) (g : Range) → Counted s g (now (counts .entry)) w (now (marks .entry)) → _≡_ {A = Total} (record { count = r; marks = now (marks .exit); output = now (output .exit) }) (totalOf (indexOf (s .st)) (now (marks .entry)) (now (output .entry)) n (wholly w s g))) ⌝ }
 {
     let layno1 = w.layno1;
     let resno0 = w.resno0;
@@ -34,7 +34,7 @@ pub(crate) fn list_rlcp(
         'ls: while l < layno1 {
             let mut c = compno0;
             'cs: while c < compno1 {
-                let precincts = count_at(prep, r, c);
+                let precincts = count_at(counts, r, c);
                 let mut k = 0;
                 'ks: while k < precincts {
                     let p = Position {

@@ -16,7 +16,7 @@ ghost use Rattle.walks.specs.Listing.{SomeListing};
 pub(crate) fn list_rpcl(
     marks: &mut [u8],
     output: &mut [u8],
-    prep: &[u32; 4224],
+    prep: &[u32; 3696],
     w: Walk,
     n: u32,
 ) -> u32

@@ -16,16 +16,16 @@ ghost use Rattle.walks.specs.Lrcp.{entry};
 // The first free position from (l, r, c, k) on.
 pub(crate) fn lrcp(
     marks: &[u8],
-    prep: &[u32; 4224],
+    counts: &[u32; 528],
     w: Walk,
     l_from: u32,
     r_from: u32,
     c_from: u32,
     k_from: u32,
 ) -> Found
-    requires { ⌜ SomeCounted (now prep) w (now marks) ⌝ }
+    requires { ⌜ SomeCounted (now counts) w (now marks) ⌝ }
     requires { ⌜ (w .resno0 ≤ «r_from») × (w .compno0 ≤ «c_from») ⌝ }
-    ensures { λ o. ⌜ ((s : Sheet) (g : Range) → Counted s g (now (prep .entry)) w (now (marks .entry)) → answerOf o ≡ seek (indexOf (s .st)) (now (marks .entry)) (entry «l_from» «r_from» «c_from» «k_from» s g)) ⌝ }
+    ensures { λ o. ⌜ ((s : Sheet) (g : Range) → Counted s g (now (counts .entry)) w (now (marks .entry)) → answerOf o ≡ seek (indexOf (s .st)) (now (marks .entry)) (entry «l_from» «r_from» «c_from» «k_from» s g)) ⌝ }
 {
     let layno1 = w.layno1;
     let resno0 = w.resno0;
@@ -50,7 +50,7 @@ pub(crate) fn lrcp(
         'rs: while r < resno1 {
             let mut c = c_at;
             'cs: while c < compno1 {
-                let count = count_at(prep, r, c);
+                let count = count_at(counts, r, c);
                 let mut k = k_at;
                 'ks: while k < count {
                     let i = index(w, l, r, c, k);

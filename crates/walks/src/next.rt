@@ -18,7 +18,7 @@ pub(crate) fn nearer(best: u32, step: u32, z: u32) -> u32
 }
 
 pub(crate) fn next_row(
-    prep: &[u32; 4224],
+    prep: &[u32; 3696],
     r0: u32,
     r1: u32,
     c0: u32,
@@ -34,7 +34,7 @@ pub(crate) fn next_row(
     'cs: while c < c1 {
         let mut r = r0;
         'rs: while r < r1 {
-            let at = 8 * (16 * (r as usize) + (c as usize));
+            let at = 7 * (16 * (r as usize) + (c as usize));
             if prep[at] != 0 {
                 best = nearer(best, prep[at + 2], y);
             }
@@ -46,7 +46,7 @@ pub(crate) fn next_row(
 }
 
 pub(crate) fn next_column(
-    prep: &[u32; 4224],
+    prep: &[u32; 3696],
     r0: u32,
     r1: u32,
     c0: u32,
@@ -63,7 +63,7 @@ pub(crate) fn next_column(
     'cs: while c < c1 {
         let mut r = r0;
         'rs: while r < r1 {
-            let at = 8 * (16 * (r as usize) + (c as usize));
+            let at = 7 * (16 * (r as usize) + (c as usize));
             if prep[at] != 0 {
                 if hits(y, prep[at + 2], prep[at + 4]) {
                     best = nearer(best, prep[at + 1], x);

@@ -19,7 +19,7 @@ ghost use Rattle.walks.specs.Pcrl.{entry};
 // The first free position from (y, x, c, r, l) on.
 pub(crate) fn pcrl(
     marks: &[u8],
-    prep: &[u32; 4224],
+    prep: &[u32; 3696],
     w: Walk,
     y_from: u32,
     x_from: u32,

@@ -18,6 +18,7 @@ ghost use Rattle.packets.specs.Sound.{positionsFor};
 ghost use Rattle.packets.specs.Calls.{after};
 ghost use Rattle.packets.specs.Meaning.{Admitted};
 ghost use Rattle.sheets.specs.Ranges.{rangeIn};
+ghost use Rattle.walks.specs.FromSound.{AllFilled};
 ghost use Rattle.walks.specs.Walk.{answerOf};
 ghost use Rattle.walks.specs.Plan.{walkFor, orderIn, Planned, SomePlan};
 
@@ -79,12 +80,18 @@ pub(crate) fn plan_of(st: State, k: u32) -> Plan
 }
 
 // The first free position of a planned progression behind a place.
-pub(crate) fn find(marks: &[u8], prep: &[u32; 4224], plan: Plan, place: Place) -> Found
-    requires { ⌜ SomePlan (now prep) plan (now marks) place ⌝ }
-    ensures { λ f. ⌜ ((st : _) (table : List ℕ) (k : ℕ) → Planned st table k (now (prep .entry)) plan (now (marks .entry)) → Admitted place (positionsFor st table k) → answerOf f ≡ seek (indexOf st) (now (marks .entry)) (after place (positionsFor st table k))) ⌝ }
+pub(crate) fn find(
+    marks: &[u8],
+    counts: &[u32; 528],
+    prep: &[u32; 3696],
+    plan: Plan,
+    place: Place,
+) -> Found
+    requires { ⌜ SomePlan (now counts) (now prep) plan (now marks) place ⌝ }
+    ensures { λ f. ⌜ ((st : _) (table : List ℕ) (k : ℕ) → Planned st table k (now (counts .entry)) plan (now (marks .entry)) → AllFilled st table (now (prep .entry)) → Admitted place (positionsFor st table k) → answerOf f ≡ seek (indexOf st) (now (marks .entry)) (after place (positionsFor st table k))) ⌝ }
 {
     if plan.order == 5 {
         return Found::Nothing;
     }
-    search(marks, prep, plan.walk, plan.order, place)
+    search(marks, counts, prep, plan.walk, plan.order, place)
 }

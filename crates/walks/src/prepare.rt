@@ -54,7 +54,7 @@ pub(crate) fn shown(wide: u32, count: u32) -> u32
 
 // The numbers of an axis, at place at and two and four behind it; the component starts at tc.
 pub(crate) fn prepare_axis(
-    prep: &mut [u32; 4224],
+    prep: &mut [u32; 3696],
     at: usize,
     t: u32,
     tc: u32,
@@ -73,7 +73,7 @@ pub(crate) fn prepare_axis(
 
 // The numbers of a resolution, from place at on, whose entry stands at place from of the table.
 pub(crate) fn prepare_entry(
-    prep: &mut [u32; 4224],
+    prep: &mut [u32; 3696],
     at: usize,
     table: &[u8],
     from: usize,
@@ -92,16 +92,14 @@ pub(crate) fn prepare_entry(
     let pdy = words::word_at(table, from + 4);
     let wide = words::word_at(table, from + 8);
     let high = words::word_at(table, from + 12);
-    let count = wide * high;
-    prep[at] = shown(wide, count);
+    prep[at] = shown(wide, wide * high);
     prepare_axis(prep, at + 1, tx0, tcx0, dx, level, pdx);
     prepare_axis(prep, at + 2, ty0, tcy0, dy, level, pdy);
-    prep[at + 7] = count;
 }
 
 // The numbers of component c, which has n resolutions, and whose entries stand from place base of the table on.
 pub(crate) fn prepare_component(
-    prep: &mut [u32; 4224],
+    prep: &mut [u32; 3696],
     table: &[u8],
     base: usize,
     c: u32,
@@ -111,7 +109,7 @@ pub(crate) fn prepare_component(
     tx0: u32,
     ty0: u32,
 )
-    requires { ⌜ (length (now prep) ≡ 4224) × SomeComponent (now table) base c n dx dy tx0 ty0 ⌝ }
+    requires { ⌜ (length (now prep) ≡ 3696) × SomeComponent (now table) base c n dx dy tx0 ty0 ⌝ }
     ensures { λ _. ⌜ Done (now (table .entry)) base c n dx dy tx0 ty0 (now (prep .entry)) (now (prep .exit)) n ⌝ }
 {
     let tcx0 = part(tx0, dx);
@@ -121,7 +119,7 @@ pub(crate) fn prepare_component(
         let i = r as usize;
         prepare_entry(
             prep,
-            8 * (16 * i + (c as usize)),
+            7 * (16 * i + (c as usize)),
             table,
             base + 16 * i,
             n - 1 - r,
@@ -138,7 +136,7 @@ pub(crate) fn prepare_component(
 
 // The numbers of all components.
 pub(crate) fn prepare(
-    prep: &mut [u32; 4224],
+    prep: &mut [u32; 3696],
     table: &[u8],
     components: u32,
     dx: &[u32; 16],
@@ -147,7 +145,7 @@ pub(crate) fn prepare(
     tx0: u32,
     ty0: u32,
 )
-    requires { ⌜ (length (now prep) ≡ 4224) × SomeComponents (now table) components (now dx) (now dy) (now resolutions) tx0 ty0 ⌝ }
+    requires { ⌜ (length (now prep) ≡ 3696) × SomeComponents (now table) components (now dx) (now dy) (now resolutions) tx0 ty0 ⌝ }
     ensures { λ _. ⌜ AllDone (now (table .entry)) components (now (dx .entry)) (now (dy .entry)) (now (resolutions .entry)) tx0 ty0 (now (prep .entry)) (now (prep .exit)) components ⌝ }
 {
     let mut base: usize = 0;

@@ -12,11 +12,11 @@ ghost use Rattle.walks.specs.Prepared.{cellOf, rangeBy, atRow};
 ghost use Rattle.walks.specs.InRow.{rowOf, AtRow, SomeRow, Row, RowPoint, SomeRowPoint, RowPlay, SomeRowPlay};
 
 // One more than the number of the first precinct of the row y of component c at resolution r; 0 where the row meets none.
-fn row_at(prep: &[u32; 4224], r: u32, c: u32, y: u32) -> u32
+fn row_at(prep: &[u32; 3696], r: u32, c: u32, y: u32) -> u32
     requires { ⌜ SomeRow (now prep) r (r + 1) c (c + 1) y ⌝ }
     ensures { λ n. ⌜ ((s : Sheet) → AtRow s (now (prep .entry)) r (r + 1) c (c + 1) y → n ≡ rowOf s r c y) ⌝ }
 {
-    let at = 8 * (16 * (r as usize) + (c as usize));
+    let at = 7 * (16 * (r as usize) + (c as usize));
     let width = prep[at];
     if width == 0 {
         return 0;
@@ -31,7 +31,7 @@ fn row_at(prep: &[u32; 4224], r: u32, c: u32, y: u32) -> u32
 // That of resolutions r0 to r1 of components c0 to c1.
 pub(crate) fn fill_row(
     row: &mut [u32; 528],
-    prep: &[u32; 4224],
+    prep: &[u32; 3696],
     r0: u32,
     r1: u32,
     c0: u32,
@@ -53,7 +53,7 @@ pub(crate) fn fill_row(
 }
 
 // The precinct of component c at resolution r that is met at x in the row.
-pub(crate) fn cell_in_row(prep: &[u32; 4224], row: &[u32; 528], r: u32, c: u32, x: u32) -> Cell
+pub(crate) fn cell_in_row(prep: &[u32; 3696], row: &[u32; 528], r: u32, c: u32, x: u32) -> Cell
     requires { ⌜ SomeRowPoint (now prep) (now row) r c x ⌝ }
     ensures { λ o. ⌜ ((s : Sheet) (y : _) → RowPoint s (now (prep .entry)) (now (row .entry)) r c x y → o ≡ cellOf s r c x y) ⌝ }
 {
@@ -62,16 +62,16 @@ pub(crate) fn cell_in_row(prep: &[u32; 4224], row: &[u32; 528], r: u32, c: u32, 
     if first == 0 {
         return Cell::Nothing;
     }
-    let step = prep[8 * i + 1];
-    if !hits(x, step, prep[8 * i + 3]) {
+    let step = prep[7 * i + 1];
+    if !hits(x, step, prep[7 * i + 3]) {
         return Cell::Nothing;
     }
-    Cell::At(x / step - prep[8 * i + 5] + (first - 1))
+    Cell::At(x / step - prep[7 * i + 5] + (first - 1))
 }
 
 // The next column at which something of the row can be met; beyond the last there is the end.
 pub(crate) fn next_in_row(
-    prep: &[u32; 4224],
+    prep: &[u32; 3696],
     row: &[u32; 528],
     r0: u32,
     r1: u32,
@@ -90,7 +90,7 @@ pub(crate) fn next_in_row(
         'rs: while r < r1 {
             let i = 16 * (r as usize) + (c as usize);
             if row[i] != 0 {
-                best = nearer(best, prep[8 * i + 1], x);
+                best = nearer(best, prep[7 * i + 1], x);
             }
             r += 1;
         }

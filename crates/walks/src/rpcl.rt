@@ -19,7 +19,7 @@ ghost use Rattle.walks.specs.Rpcl.{entry};
 // The first free position from (r, y, x, c, l) on.
 pub(crate) fn rpcl(
     marks: &[u8],
-    prep: &[u32; 4224],
+    prep: &[u32; 3696],
     w: Walk,
     r_from: u32,
     y_from: u32,

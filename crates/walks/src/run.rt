@@ -1,4 +1,5 @@
-// The listing of a progression, by its order, and of all of them in turn.
+// The listing of a progression, by its order, and of all of them in turn: the numbers that only the orders by points need are prepared once one of these is met.
+use crate::count::count_precincts;
 use crate::list_cprl::list_cprl;
 use crate::list_lrcp::list_lrcp;
 use crate::list_pcrl::list_pcrl;
@@ -6,50 +7,119 @@ use crate::list_rlcp::list_rlcp;
 use crate::list_rpcl::list_rpcl;
 use crate::plan::Plan;
 use crate::plan::plan_of;
+use crate::prepare::prepare;
 use packets::state::State;
 ghost use mathlib.Core.Path.{_≡_};
+ghost use mathlib.Core.Bool.{false};
 ghost use Prim.Native.Nat.{ℕ};
 ghost use mathlib.Core.List.{List};
 ghost use Rattle.packets.specs.Tile.{indexOf};
 ghost use Rattle.packets.specs.Sound.{positionsFor};
+ghost use Rattle.packets.specs.Meaning.{Sound};
+ghost use Rattle.walks.specs.FromSound.{AllFilled};
 ghost use Rattle.walks.specs.Plan.{Planned};
-ghost use Rattle.walks.specs.Running.{Total, totalOf, SomeRun};
-ghost use Rattle.walks.specs.RunAll.{Arranged, SomeArranged, upTo};
+ghost use Rattle.walks.specs.ByOrder.{pointed};
+ghost use Rattle.walks.specs.Running.{Total, totalOf, SomeRun, SomeFilledRun};
+ghost use Rattle.walks.specs.RunAll.{fromOn, RestIn};
 
-// Lists a planned progression, with n packets before it; answers how many there are then.
-fn list_progression(
-    marks: &mut [u8],
-    output: &mut [u8],
-    prep: &[u32; 4224],
-    plan: Plan,
-    n: u32,
-) -> u32
-    requires { ⌜ SomeRun (now prep) plan (now marks) n ⌝ }
-    ensures { λ r. ⌜ ((st : _) (table : List ℕ) (k : ℕ) → Planned st table k (now (prep .entry)) plan (now (marks .entry)) → _≡_ {A = Total} (record { count = r; marks = now (marks .exit); output = now (output .exit) }) (totalOf (indexOf st) (now (marks .entry)) (now (output .entry)) n (positionsFor st table k))) ⌝ }
+// Whether the order with this number is one by points.
+fn by_points(order: u32) -> bool
+    ensures { λ r. ⌜ r ≡ pointed order ⌝ }
+{
+    (order > 1) & (order < 5)
+}
+
+// Lists a planned progression that is not by points, with n packets before it; answers how many there are then.
+fn list_counted(marks: &mut [u8], output: &mut [u8], counts: &[u32; 528], plan: Plan, n: u32) -> u32
+    requires { ⌜ SomeRun (now counts) plan (now marks) n × (pointed (plan .order) ≡ false) ⌝ }
+    ensures { λ r. ⌜ ((st : _) (table : List ℕ) (k : ℕ) → Planned st table k (now (counts .entry)) plan (now (marks .entry)) → _≡_ {A = Total} (record { count = r; marks = now (marks .exit); output = now (output .exit) }) (totalOf (indexOf st) (now (marks .entry)) (now (output .entry)) n (positionsFor st table k))) ⌝ }
 {
     let order = plan.order;
     let w = plan.walk;
     match order {
-        0 => list_lrcp(marks, output, prep, w, n),
-        1 => list_rlcp(marks, output, prep, w, n),
-        2 => list_rpcl(marks, output, prep, w, n),
-        3 => list_pcrl(marks, output, prep, w, n),
-        4 => list_cprl(marks, output, prep, w, n),
+        0 => list_lrcp(marks, output, counts, w, n),
+        1 => list_rlcp(marks, output, counts, w, n),
         _ => n,
     }
 }
 
-// Lists every progression of a state in turn, over numbers prepared; answers how many packets there are.
-pub(crate) fn list_all(st: State, prep: &[u32; 4224], marks: &mut [u8], output: &mut [u8]) -> u32
-    requires { ⌜ SomeArranged st (now prep) (now marks) ⌝ }
-    ensures { λ r. ⌜ ((table : List ℕ) → Arranged st table (now (prep .entry)) (now (marks .entry)) → _≡_ {A = Total} (record { count = r; marks = now (marks .exit); output = now (output .exit) }) (totalOf (indexOf st) (now (marks .entry)) (now (output .entry)) 0 (upTo st table (st .progressions)))) ⌝ }
+// Lists any planned progression.
+fn list_progression(
+    marks: &mut [u8],
+    output: &mut [u8],
+    counts: &[u32; 528],
+    prep: &[u32; 3696],
+    plan: Plan,
+    n: u32,
+) -> u32
+    requires { ⌜ SomeFilledRun (now counts) (now prep) plan (now marks) n ⌝ }
+    ensures { λ r. ⌜ ((st : _) (table : List ℕ) (k : ℕ) → Planned st table k (now (counts .entry)) plan (now (marks .entry)) → AllFilled st table (now (prep .entry)) → _≡_ {A = Total} (record { count = r; marks = now (marks .exit); output = now (output .exit) }) (totalOf (indexOf st) (now (marks .entry)) (now (output .entry)) n (positionsFor st table k))) ⌝ }
 {
+    let order = plan.order;
+    let w = plan.walk;
+    match order {
+        2 => list_rpcl(marks, output, prep, w, n),
+        3 => list_pcrl(marks, output, prep, w, n),
+        4 => list_cprl(marks, output, prep, w, n),
+        _ => list_counted(marks, output, counts, plan, n),
+    }
+}
+
+// Lists the progressions of a state from number k_from on, with n packets before them, over numbers prepared here; answers how many there are then.
+fn list_rest(
+    st: State,
+    table: &[u8],
+    counts: &[u32; 528],
+    marks: &mut [u8],
+    output: &mut [u8],
+    k_from: u32,
+    n: u32,
+) -> u32
+    requires { ⌜ RestIn st (now table) (now counts) (now marks) n «k_from» ⌝ }
+    ensures { λ r. ⌜ _≡_ {A = Total} (record { count = r; marks = now (marks .exit); output = now (output .exit) }) (totalOf (indexOf st) (now (marks .entry)) (now (output .entry)) n (fromOn st (now (table .entry)) «k_from»)) ⌝ }
+{
+    let mut prep = [0u32; 3696];
+    let dx = st.dx;
+    let dy = st.dy;
+    let resolutions = st.resolutions;
+    prepare(
+        &mut prep,
+        table,
+        st.components,
+        &dx,
+        &dy,
+        &resolutions,
+        st.tx0,
+        st.ty0,
+    );
+    let progressions = st.progressions;
+    let mut count = n;
+    let mut k = k_from;
+    'runs: while k < progressions {
+        let plan = plan_of(st, k);
+        count = list_progression(marks, output, counts, &prep, plan, count);
+        k += 1;
+    }
+    count
+}
+
+// Lists every progression of a state in turn; answers how many packets there are.
+pub(crate) fn list_all(st: State, table: &[u8], marks: &mut [u8], output: &mut [u8]) -> u32
+    requires { ⌜ Sound st (now table) (now marks) ⌝ }
+    ensures { λ r. ⌜ _≡_ {A = Total} (record { count = r; marks = now (marks .exit); output = now (output .exit) }) (totalOf (indexOf st) (now (marks .entry)) (now (output .entry)) 0 (fromOn st (now (table .entry)) 0)) ⌝ }
+{
+    let mut counts = [0u32; 528];
+    let resolutions = st.resolutions;
+    count_precincts(&mut counts, table, st.components, &resolutions);
     let progressions = st.progressions;
     let mut count = 0;
     let mut k = 0;
     'runs: while k < progressions {
         let plan = plan_of(st, k);
-        count = list_progression(marks, output, prep, plan, count);
+        if by_points(plan.order) {
+            return list_rest(st, table, &counts, marks, output, k, count);
+        }
+        count = list_counted(marks, output, &counts, plan, count);
         k += 1;
     }
     count

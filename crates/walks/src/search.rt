@@ -18,7 +18,7 @@ ghost use Rattle.packets.specs.Calls.{after};
 ghost use Rattle.packets.specs.Meaning.{Admitted};
 ghost use Rattle.sheets.specs.Ranges.{orderNumber};
 ghost use Rattle.walks.specs.Walk.{answerOf};
-ghost use Rattle.walks.specs.Search.{firstOf, nextTry, leftFrom, Ordered, SomeStart, SomePlace};
+ghost use Rattle.walks.specs.Search.{firstOf, nextTry, leftFrom, Searched, SomeStart, SomePlace};
 
 fn first(w: Walk) -> Position
     ensures { λ r. ⌜ r ≡ firstOf w ⌝ }
@@ -62,13 +62,20 @@ fn next_try(order: u32, p: Position) -> Position
 }
 
 // The first free position from p on, by the walk of the order.
-fn walk_from(marks: &[u8], prep: &[u32; 4224], w: Walk, order: u32, p: Position) -> Found
-    requires { ⌜ SomeStart (now prep) w (now marks) order p ⌝ }
-    ensures { λ f. ⌜ ((s : Sheet) (g : Range) (o : Order) → Ordered s g (now (prep .entry)) w (now (marks .entry)) order o → answerOf f ≡ seek (indexOf (s .st)) (now (marks .entry)) (leftFrom s g o p)) ⌝ }
+fn walk_from(
+    marks: &[u8],
+    counts: &[u32; 528],
+    prep: &[u32; 3696],
+    w: Walk,
+    order: u32,
+    p: Position,
+) -> Found
+    requires { ⌜ SomeStart (now counts) (now prep) w (now marks) order p ⌝ }
+    ensures { λ f. ⌜ ((s : Sheet) (g : Range) (o : Order) → Searched s g (now (counts .entry)) (now (prep .entry)) w (now (marks .entry)) order o → answerOf f ≡ seek (indexOf (s .st)) (now (marks .entry)) (leftFrom s g o p)) ⌝ }
 {
     match order {
-        0 => lrcp(marks, prep, w, p.layno, p.resno, p.compno, p.precno),
-        1 => rlcp(marks, prep, w, p.resno, p.layno, p.compno, p.precno),
+        0 => lrcp(marks, counts, w, p.layno, p.resno, p.compno, p.precno),
+        1 => rlcp(marks, counts, w, p.resno, p.layno, p.compno, p.precno),
         2 => rpcl(marks, prep, w, p.resno, p.y, p.x, p.compno, p.layno),
         3 => pcrl(marks, prep, w, p.y, p.x, p.compno, p.resno, p.layno),
         4 => cprl(marks, prep, w, p.compno, p.y, p.x, p.resno, p.layno),
@@ -77,13 +84,20 @@ fn walk_from(marks: &[u8], prep: &[u32; 4224], w: Walk, order: u32, p: Position)
 }
 
 // The first free position behind a place of the progression.
-pub(crate) fn search(marks: &[u8], prep: &[u32; 4224], w: Walk, order: u32, place: Place) -> Found
-    requires { ⌜ SomePlace (now prep) w (now marks) order place ⌝ }
-    ensures { λ f. ⌜ ((s : Sheet) (g : Range) (o : Order) → Ordered s g (now (prep .entry)) w (now (marks .entry)) order o → Admitted place (positionsIn s g o) → answerOf f ≡ seek (indexOf (s .st)) (now (marks .entry)) (after place (positionsIn s g o))) ⌝ }
+pub(crate) fn search(
+    marks: &[u8],
+    counts: &[u32; 528],
+    prep: &[u32; 3696],
+    w: Walk,
+    order: u32,
+    place: Place,
+) -> Found
+    requires { ⌜ SomePlace (now counts) (now prep) w (now marks) order place ⌝ }
+    ensures { λ f. ⌜ ((s : Sheet) (g : Range) (o : Order) → Searched s g (now (counts .entry)) (now (prep .entry)) w (now (marks .entry)) order o → Admitted place (positionsIn s g o) → answerOf f ≡ seek (indexOf (s .st)) (now (marks .entry)) (after place (positionsIn s g o))) ⌝ }
 {
     match place {
-        Place::Fresh => walk_from(marks, prep, w, order, first(w)),
-        Place::At(p) => walk_from(marks, prep, w, order, next_try(order, p)),
+        Place::Fresh => walk_from(marks, counts, prep, w, order, first(w)),
+        Place::At(p) => walk_from(marks, counts, prep, w, order, next_try(order, p)),
         Place::Ended => Found::Nothing,
     }
 }

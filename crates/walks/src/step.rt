@@ -1,4 +1,5 @@
 // One step of a progression (01, 'The calls'; opj_pi_next).
+use crate::count::count_precincts;
 use crate::mark::set_mark;
 use crate::plan::find;
 use crate::plan::plan_of;
@@ -23,10 +24,12 @@ pub fn step(st: State, table: &[u8], marks: &mut [u8], cursor: Cursor) -> Steppe
     let k = cursor.progression;
     let place = cursor.place;
     let plan = plan_of(st, k);
-    let mut prep = [0u32; 4224];
+    let resolutions = st.resolutions;
+    let mut counts = [0u32; 528];
+    count_precincts(&mut counts, table, st.components, &resolutions);
+    let mut prep = [0u32; 3696];
     let dx = st.dx;
     let dy = st.dy;
-    let resolutions = st.resolutions;
     prepare(
         &mut prep,
         table,
@@ -37,7 +40,7 @@ pub fn step(st: State, table: &[u8], marks: &mut [u8], cursor: Cursor) -> Steppe
         st.tx0,
         st.ty0,
     );
-    match find(marks, &prep, plan, place) {
+    match find(marks, &counts, &prep, plan, place) {
         Found::At(p) => {
             set_mark(marks, plan.walk, p);
             Stepped::Packet(

@@ -1,5 +1,4 @@
 // The whole run: setup, then every progression in turn until it ends (01, 'The calls').
-use crate::prepare::prepare;
 use crate::run::list_all;
 ghost use mathlib.Core.Path.{_≡_};
 ghost use Rattle.packets.specs.Calls.{wholeRunOf};
@@ -18,19 +17,5 @@ pub fn whole_run(sheet: &[u8], table: &mut [u8], marks: &mut [u8], output: &mut 
         return number;
     }
     let st = answer.state;
-    let mut prep = [0u32; 4224];
-    let dx = st.dx;
-    let dy = st.dy;
-    let resolutions = st.resolutions;
-    prepare(
-        &mut prep,
-        table,
-        st.components,
-        &dx,
-        &dy,
-        &resolutions,
-        st.tx0,
-        st.ty0,
-    );
-    list_all(st, &prep, marks, output) as i32
+    list_all(st, table, marks, output) as i32
 }

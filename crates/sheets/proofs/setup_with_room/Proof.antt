@@ -1,12 +1,17 @@
 -- `setup`: the refusals in their order, each with everything as it was; and else the table written and the marks cleared. Assumes nothing.
 use Rattle.sheets.proofs.SetUps.{Seen, read-fine, read-bad, read-fields, refused-reading, fields-good, refused-grid, refused-many, refused-marks, refused-table, refused-room, prec-fits, accepted-left}
 use Rattle.sheets.proofs.SoundBy.{few-components, few-levels}
-use Rattle.packets.specs.Tile.{entriesBefore}
+use Rattle.sheets.proofs.Kept.{kept-length, kept-roomy, kept-table}
+use Rattle.survey.specs.Sources.{found-roomy}
+use Rattle.survey.specs.declared.Source.the-variants.{Records}
+use lib.ListN.{length}
+use native.Mathlib.Omega.{arith}
 use Rattle.packets.specs.Answers.{ofSetUp}
 use mathlib.Core.List.{List}
 use Prim.Native.Nat.{ℕ}
 use denote.Ref.{now}
-use mathlib.Core.Path.{ap, _∙_}
+use mathlib.Core.Path.{_≡_, ap, _∙_}
+use mathlib.Core.Bool.{false}
 use borrow.Author.Needs.{needs}
 use Rattle.sheets.proofs.setup_with_room.Statement.{statement}
 use Rattle.sheets.proofs.setup_with_room.Tie as tie
@@ -14,14 +19,14 @@ use Rattle.sheets.proofs.setup_with_room.Tie as tie
 -- what is known once the sheet is read and surveyed
 module _ (c : tie.After-survey) where
   abbrev bytes : List ℕ
-  bytes = now (c .before .before .before .before .before .before .before .before .args .sheet)
+  bytes = now (c .before .before .before .before .before .before .before .before .before .args .sheet)
 
-  seen : Seen bytes (c .before .before .before .before .read .result .state) (c .survey .result)
+  seen : Seen bytes (c .before .before .before .before .before .read .result .state) (c .survey .result)
   seen =
-      let r = c .before .before .before .before .read in
-      let n = c .before .before .before .number in
-      let fine = read-fine bytes (r .result) (r .ensures) (n .result) (n .ensures) (search needs) (c .before .before .if1 .left) in
-      record { read = fine; fields = read-fields bytes (r .result) (r .ensures) (n .result) (n .ensures) fine; said = c .survey .ensures }
+      let r = c .before .before .before .before .before .read in
+      let n = c .before .before .before .before .number in
+      let fine = read-fine bytes (r .result) (r .ensures) (n .result) (n .ensures) (search needs) (c .before .before .before .if1 .left) in
+      record { read = fine; fields = read-fields bytes (r .result) (r .ensures) (n .result) (n .ensures) fine; said = c .survey .ensures .0 ∙ found-roomy bytes Records false _ _ kept-roomy }
 
 read-requires : tie.Need-read-requires
 read-requires c κs = search needs
@@ -35,6 +40,9 @@ returns c = let z = c .before .before .before .before .before .before in
     let n = c .before .number in
     refused-reading (now (z .args .sheet)) (now (z .args .table)) (now (z .args .marks)) (z .args .room) (read-bad (now (z .args .sheet)) (r .result) (r .ensures) (n .result) (n .ensures) (c .if1 .taken)) (r .result) (r .ensures)
 
+slice-aggregate-survey : tie.Need-slice-aggregate-survey
+slice-aggregate-survey c = search needs
+
 survey-requires : tie.Need-survey-requires
 survey-requires c κs = search needs
 
@@ -45,17 +53,20 @@ refused-requires : tie.Need-refused-requires
 refused-requires c κs = search needs
 
 returns-2 : tie.Need-returns-2
-returns-2 c = let z = c .before .before .before .before .before .before .before .before .before .before .before .before .before in
-    refused-marks (seen (c .before .before .before .before .before)) (now (z .args .table)) (now (z .args .marks)) (z .args .room) (c .before .before .before .before .if2 .taken) (c .before .before .before .if3 .taken) (c .before .if4 .taken) (c .refused .result) (ap ofSetUp (c .refused .ensures))
+returns-2 c = let z = c .before .before .before .before .before .before .before .before .before .before .before .before .before .before .before in
+    refused-marks (seen (c .before .before .before .before .before .before)) (now (z .args .table)) (now (z .args .marks)) (z .args .room) (c .before .before .before .before .if2 .taken) (c .before .before .before .if3 .taken) (c .before .if4 .taken) (c .refused .result) (ap ofSetUp (c .refused .ensures))
 
 cast-entries : tie.Need-cast-entries
 cast-entries c = search needs
 
 entries-requires : tie.Need-entries-requires
-entries-requires c κs = let z = c .before .before .before .before .before .before .before .before .before .before .before .before .before .before .before in
-    let st = c .before .before .before .before .before .before .before .before .before .before .before .read .result .state in
-    let f = fields-good (seen (c .before .before .before .before .before .before .before)) (now (z .args .table)) (now (z .args .marks)) (z .args .room) in
+entries-requires c κs = let z = c .before .before .before .before .before .before .before .before .before .before .before .before .before .before .before .before .before in
+    let st = c .before .before .before .before .before .before .before .before .before .before .before .before .before .read .result .state in
+    let f = fields-good (seen (c .before .before .before .before .before .before .before .before)) (now (z .args .table)) (now (z .args .marks)) (z .args .room) in
     (few-components st f, few-levels st f)
+
+mul-words : tie.Need-mul-words
+mul-words c = search needs
 
 mul-if5 : tie.Need-mul-if5
 mul-if5 c = search needs
@@ -64,9 +75,9 @@ refused-requires-2 : tie.Need-refused-requires-2
 refused-requires-2 c κs = search needs
 
 returns-3 : tie.Need-returns-3
-returns-3 c = let z = c .before .before .before .before .before .before .before .before .before .before .before .before .before .before .before .before .before .before in
+returns-3 c = let z = c .before .before .before .before .before .before .before .before .before .before .before .before .before .before .before .before .before .before .before .before in
     let e = c .before .before .entries .ensures .0 in
-    refused-table (seen (c .before .before .before .before .before .before .before .before .before .before)) (now (z .args .table)) (now (z .args .marks)) (z .args .room) (c .before .before .before .before .before .before .before .before .before .if2 .taken) (c .before .before .before .before .before .before .before .before .if3 .taken) (c .before .before .before .before .before .before .if4 .left) (rw (← e) (c .before .if5 .taken)) (c .refused2 .result) (ap ofSetUp (c .refused2 .ensures))
+    refused-table (seen (c .before .before .before .before .before .before .before .before .before .before .before)) (now (z .args .table)) (now (z .args .marks)) (z .args .room) (c .before .before .before .before .before .before .before .before .before .if2 .taken) (c .before .before .before .before .before .before .before .before .if3 .taken) (c .before .before .before .before .before .before .if4 .left) (omega (arith, e, c .before .if5 .taken)) (c .refused2 .result) (ap ofSetUp (c .refused2 .ensures))
 
 mul-if6 : tie.Need-mul-if6
 mul-if6 c = search needs
@@ -75,21 +86,26 @@ refused-requires-3 : tie.Need-refused-requires-3
 refused-requires-3 c κs = search needs
 
 returns-4 : tie.Need-returns-4
-returns-4 c = let z = c .before .before .before .before .before .before .before .before .before .before .before .before .before .before .before .before .before .before .before in
+returns-4 c = let z = c .before .before .before .before .before .before .before .before .before .before .before .before .before .before .before .before .before .before .before .before .before in
     let e = c .before .before .before .entries .ensures .0 in
-    refused-room (seen (c .before .before .before .before .before .before .before .before .before .before .before)) (now (z .args .table)) (now (z .args .marks)) (z .args .room) (c .before .before .before .before .before .before .before .before .before .before .if2 .taken) (c .before .before .before .before .before .before .before .before .before .if3 .taken) (c .before .before .before .before .before .before .before .if4 .left) (rw (← e) (c .before .before .if5 .left)) (c .before .if6 .taken) (c .refused3 .result) (ap ofSetUp (c .refused3 .ensures))
+    refused-room (seen (c .before .before .before .before .before .before .before .before .before .before .before .before)) (now (z .args .table)) (now (z .args .marks)) (z .args .room) (c .before .before .before .before .before .before .before .before .before .before .if2 .taken) (c .before .before .before .before .before .before .before .before .before .if3 .taken) (c .before .before .before .before .before .before .before .if4 .left) (omega (arith, e, c .before .before .if5 .left)) (c .before .if6 .taken) (c .refused3 .result) (ap ofSetUp (c .refused3 .ensures))
 
-write-table-requires : tie.Need-write-table-requires
-unfolding entriesBefore
-write-table-requires c κs = let w = seen (c .before .before .before .before .before .before .before .before .before .before .before) in
-    let e = c .before .before .before .entries .ensures .0 in
-    record { read = w .read; fields = w .fields; room = rw (← e) (c .before .before .if5 .left) }
+slice-aggregate-write : tie.Need-slice-aggregate-write
+slice-aggregate-write c = search needs
+
+write-requires : tie.Need-write-requires
+write-requires c κs = let z = c .before .before .before .before .before .before .before .before .before .before .before .before .before .before .before .before .before .before .before .before .before .before in
+    let w = seen (c .before .before .before .before .before .before .before .before .before .before .before .before .before) in
+    let few = few-components (c .before .before .before .before .before .before .before .before .before .before .before .before .before .before .before .before .before .before .read .result .state) (fields-good w (now (z .args .table)) (now (z .args .marks)) (z .args .room)) in
+    let e = c .before .before .before .before .entries .ensures .1 in
+    let same : length (c .before .before .before .before .before .before .before .before .before .before .before .before .before .survey .last .1 .1 .1 .1 .0) ≡ 2112 = omega (arith, c .before .before .before .before .before .before .before .before .before .before .before .before .before .survey .kept, kept-length) in
+    (omega (arith, e, few, same), omega (arith, c .before .before .before .if5 .left), omega (arith, e, few))
 
 clear-requires : tie.Need-clear-requires
 clear-requires c κs = search needs
 
 reported-requires : tie.Need-reported-requires
-reported-requires c κs = let z = c .before .before .before .before .before .before .before .before .before .before .before .before .before .before .before .before .before .before .before .before .before .before .before .before .before .before in prec-fits (seen (c .before .before .before .before .before .before .before .before .before .before .before .before .before .before .before .before .before .before)) (now (z .args .table)) (now (z .args .marks)) (z .args .room) (c .before .before .before .before .before .before .before .before .before .before .before .before .before .before .before .before .before .if2 .taken) (c .before .before .before .before .before .before .before .before .before .before .before .before .before .before .before .before .if3 .taken)
+reported-requires c κs = let z = c .before .before .before .before .before .before .before .before .before .before .before .before .before .before .before .before .before .before .before .before .before .before .before .before .before .before .before .before .before in prec-fits (seen (c .before .before .before .before .before .before .before .before .before .before .before .before .before .before .before .before .before .before .before .before)) (now (z .args .table)) (now (z .args .marks)) (z .args .room) (c .before .before .before .before .before .before .before .before .before .before .before .before .before .before .before .before .before .before .if2 .taken) (c .before .before .before .before .before .before .before .before .before .before .before .before .before .before .before .before .before .if3 .taken)
 
 same-length : tie.Need-same-length
 same-length c = search needs
@@ -98,24 +114,24 @@ same-length-2 : tie.Need-same-length-2
 same-length-2 c = search needs
 
 returns-5 : tie.Need-returns-5
-returns-5 c = let z = c .before .before .before .before .before .before .before .before .before .before .before .before .before .before .before .before .before .before .before .before .before .before .before .before .before .before .before in
-    let e = c .before .before .before .before .before .before .before .before .before .before .before .entries .ensures .0 in
-    let l = accepted-left (seen (c .before .before .before .before .before .before .before .before .before .before .before .before .before .before .before .before .before .before .before)) (now (z .args .table)) (now (z .args .marks)) (z .args .room) (c .before .before .before .before .before .before .before .before .before .before .before .before .before .before .before .before .before .before .if2 .taken) (c .before .before .before .before .before .before .before .before .before .before .before .before .before .before .before .before .before .if3 .taken) (c .before .before .before .before .before .before .before .before .before .before .before .before .before .before .before .if4 .left) (rw (← e) (c .before .before .before .before .before .before .before .before .before .before .if5 .left)) (c .before .before .before .before .before .before .before .before .before .if6 .left) in
-    (rw (c .reported .ensures) (l .0), (c .before .before .before .before .before .before .before .write-table .ensures ∙ l .1 .0, c .before .before .before .clear .ensures ∙ l .1 .1))
+returns-5 c = let z = c .before .before .before .before .before .before .before .before .before .before .before .before .before .before .before .before .before .before .before .before .before .before .before .before .before .before .before .before .before .before in
+    let e = c .before .before .before .before .before .before .before .before .before .before .before .before .entries .ensures .0 in
+    let l = accepted-left (seen (c .before .before .before .before .before .before .before .before .before .before .before .before .before .before .before .before .before .before .before .before .before)) (now (z .args .table)) (now (z .args .marks)) (z .args .room) (c .before .before .before .before .before .before .before .before .before .before .before .before .before .before .before .before .before .before .before .if2 .taken) (c .before .before .before .before .before .before .before .before .before .before .before .before .before .before .before .before .before .before .if3 .taken) (c .before .before .before .before .before .before .before .before .before .before .before .before .before .before .before .before .if4 .left) (omega (arith, e, c .before .before .before .before .before .before .before .before .before .before .before .if5 .left)) (c .before .before .before .before .before .before .before .before .before .before .if6 .left) in
+    (rw (c .reported .ensures) (l .0), (c .before .before .before .before .before .before .before .write .ensures ∙ kept-table (seen (c .before .before .before .before .before .before .before .before .before .before .before .before .before .before .before .before .before .before .before .before .before)) (c .before .before .before .before .before .before .before .before .before .before .before .before .before .before .before .before .before .before .before .before .before .survey .ensures .1) (c .before .before .before .before .before .before .before .before .before .before .before .before .entries .ensures .0) _ ∙ l .1 .0, c .before .before .before .clear .ensures ∙ l .1 .1))
 
 refused-requires-4 : tie.Need-refused-requires-4
 refused-requires-4 c κs = search needs
 
 returns-6 : tie.Need-returns-6
-returns-6 c = let z = c .before .before .before .before .before .before .before .before .before .before .before in
-    refused-many (seen (c .before .before .before)) (now (z .args .table)) (now (z .args .marks)) (z .args .room) (c .before .before .if2 .taken) (c .before .if3 .left) (c .refused4 .result) (ap ofSetUp (c .refused4 .ensures))
+returns-6 c = let z = c .before .before .before .before .before .before .before .before .before .before .before .before .before in
+    refused-many (seen (c .before .before .before .before)) (now (z .args .table)) (now (z .args .marks)) (z .args .room) (c .before .before .if2 .taken) (c .before .if3 .left) (c .refused4 .result) (ap ofSetUp (c .refused4 .ensures))
 
 refused-requires-5 : tie.Need-refused-requires-5
 refused-requires-5 c κs = search needs
 
 returns-7 : tie.Need-returns-7
-returns-7 c = let z = c .before .before .before .before .before .before .before .before .before .before in
-    refused-grid (seen (c .before .before)) (now (z .args .table)) (now (z .args .marks)) (z .args .room) (c .before .if2 .left) (c .refused5 .result) (ap ofSetUp (c .refused5 .ensures))
+returns-7 c = let z = c .before .before .before .before .before .before .before .before .before .before .before .before in
+    refused-grid (seen (c .before .before .before)) (now (z .args .table)) (now (z .args .marks)) (z .args .room) (c .before .if2 .left) (c .refused5 .result) (ap ofSetUp (c .refused5 .ensures))
 
 pub setup-with-room-spec : {M : Type 1} → statement M
 setup-with-room-spec =
@@ -124,19 +140,22 @@ setup-with-room-spec =
     read-requires
     number-requires
     returns
+    slice-aggregate-survey
     survey-requires
     cast-needed
     refused-requires
     returns-2
     cast-entries
     entries-requires
+    mul-words
     mul-if5
     refused-requires-2
     returns-3
     mul-if6
     refused-requires-3
     returns-4
-    write-table-requires
+    slice-aggregate-write
+    write-requires
     clear-requires
     reported-requires
     same-length

@@ -1,5 +1,9 @@
 -- `state_sound`: the fields, the room in the table, and what a survey of it finds. Assumes nothing.
 use Rattle.sheets.proofs.SoundBy.{few-components, few-levels, fields-fail, table-short, state-by}
+use Rattle.sheets.proofs.Kept.{kept-roomy}
+use Rattle.survey.specs.Sources.{found-roomy}
+use Rattle.survey.specs.declared.Source.the-variants.{Entries}
+use mathlib.Core.Bool.{true}
 use denote.Ref.{now}
 use mathlib.Core.Path.{sym, _∙_}
 use borrow.Author.Needs.{needs}
@@ -18,6 +22,9 @@ entries-requires c κs = let z = c .before .before .before .before .before .befo
 mul-if2 : tie.Need-mul-if2
 mul-if2 c = search needs
 
+slice-aggregate-survey : tie.Need-slice-aggregate-survey
+slice-aggregate-survey c = search needs
+
 survey-requires : tie.Need-survey-requires
 survey-requires c κs = search needs
 
@@ -28,10 +35,11 @@ cast-result : tie.Need-cast-result
 cast-result c = search needs
 
 returns : tie.Need-returns
-returns c = let z = c .before .before .before .before .before .before .before .before .before .before .before .before .before .before .before in
-    let e = c .before .before .before .before .before .before .before .entries .ensures .0 in
-    rw (c .before .before .before .before .agree .ensures, c .before .before .before .before .before .survey .ensures)
-    (state-by (z .args .st) (now (z .args .table)) (now (z .args .marks)) (sym (c .before .before .before .before .before .before .before .before .before .before .before .before .fields-sound .ensures) ∙ c .before .before .before .before .before .before .before .before .before .before .before .if1 .taken) (rw (← e) (c .before .before .before .before .before .before .if2 .taken)))
+returns c = let z = c .before .before .before .before .before .before .before .before .before .before .before .before .before .before .before .before .before in
+    let e = c .before .before .before .before .before .before .before .before .before .entries .ensures .0 in
+    let found = c .before .before .before .before .before .before .survey .ensures .0 ∙ found-roomy (now (z .args .table)) Entries true (z .args .st) _ kept-roomy in
+    rw (c .before .before .before .before .agree .ensures, found)
+    (state-by (z .args .st) (now (z .args .table)) (now (z .args .marks)) (sym (c .before .before .before .before .before .before .before .before .before .before .before .before .before .before .fields-sound .ensures) ∙ c .before .before .before .before .before .before .before .before .before .before .before .before .before .if1 .taken) (rw (← e) (c .before .before .before .before .before .before .before .before .if2 .taken)))
 
 returns-2 : tie.Need-returns-2
 returns-2 c = let z = c .before .before .before .before .before .before .before .before .before in
@@ -49,6 +57,7 @@ state-sound-spec =
     cast-entries
     entries-requires
     mul-if2
+    slice-aggregate-survey
     survey-requires
     agree-requires
     cast-result

@@ -1,192 +1,66 @@
--- `survey`: after each component the survey has seen what the definitions say of it (`Seen`), and at the end what it finds are the sheet's numbers.
--- The measure is what is left of the components. Assumes nothing.
-use Rattle.survey.proofs.Found.{above-x, above-y, found-is}
-use Rattle.survey.proofs.Seen.{Seen, seen-none, room, seen-more, seen-bad, seen-many, survey-in}
-use Rattle.survey.proofs.Bases.{Small, places-small}
-use Rattle.survey.specs.Passing.{placesOf}
+-- `survey`: the pass over the components where there is room, and else nothing; what it kept of something that is not good is cleared. Assumes nothing.
+use Rattle.survey.proofs.Room.{none-found, none-kept, is-found, bad-kept, good-kept}
+use Rattle.laws.specs.Cases.{not-true, not-false}
 use borrow.Author.Needs.{needs}
+use denote.Ref.{now}
+use lib.ListN.{length}
+use mathlib.Core.Path.{_≡_, sym, ap, _∙_}
+use mathlib.Core.Bool.{true, false}
 use native.Mathlib.Omega.{arith}
-use mathlib.Core.Path.{_≡_, refl, sym, _∙_}
-use Prim.Native.Nat.{_-_, _≤_}
 use Rattle.survey.proofs.survey.Statement.{statement}
 use Rattle.survey.proofs.survey.Tie as tie
 
-abbrev Inv-loop : tie.InvT-loop
-Inv-loop e check st n tile places place₀ all₀ max-res₀ xs₀ ys₀ c₀ place all max-res xs ys c = (c ≤ n) × Seen e places check st place all max-res xs ys c
+clear-requires : tie.Need-clear-requires
+clear-requires c κs = search needs
 
-abbrev μ-loop : tie.MeasureT-loop
-μ-loop e check st n tile places place₀ all₀ max-res₀ xs₀ ys₀ c₀ place all max-res xs ys c = n - c
-
-none-requires : tie.Need-none-requires Inv-loop μ-loop
+none-requires : tie.Need-none-requires
 none-requires c κs = search needs
 
-returns : tie.Need-returns Inv-loop μ-loop
-returns c = let a = c .before .before .before .args in
-    c .none .ensures ∙ sym (survey-in (a .e .now) (a .at) (a .check) (a .t4) (placesOf (a .at)) refl ∙ seen-many (a .e .now) _ (a .check) (a .t4) (c .before .if1 .taken))
+same-length : tie.Need-same-length
+same-length c = search needs
 
-cast-n : tie.Need-cast-n Inv-loop μ-loop
-cast-n c = search needs
+returns : tie.Need-returns
+returns c = let a = c .before .before .before .before .before .before .before .before .args in
+    (c .none .ensures ∙ none-found (now (a .e)) (a .at) (a .check) (a .st) (now (a .kept)) (omega arith), c .before .before .before .clear .ensures ∙ none-kept (now (a .e)) (a .at) (a .check) (a .st) (now (a .kept)) (omega arith))
 
-of-requires : tie.Need-of-requires Inv-loop μ-loop
-of-requires c κs = search needs
+passed-requires : tie.Need-passed-requires
+passed-requires c κs = search needs
 
-start-requires : tie.Need-start-requires Inv-loop μ-loop
-start-requires c κs = search needs
+clear-requires-2 : tie.Need-clear-requires-2
+clear-requires-2 c κs = search needs
 
-loop-holds : tie.Need-loop-holds Inv-loop μ-loop
-loop-holds c = let a = c .before .before .before .before .args in
-    (omega arith, rw (c .start .ensures) (seen-none (a .e .now) (c .before .of .result) (a .check) (a .t4) (rw (c .before .of .ensures) (places-small (a .at)))))
+same-length-2 : tie.Need-same-length-2
+same-length-2 c = search needs
 
-mul-dx : tie.Need-mul-dx Inv-loop μ-loop
-mul-dx c = omega arith
+returns-2 : tie.Need-returns-2
+returns-2 c = let a = c .before .before .before .before .before .before .before .before .before .before .before .before .before .args in
+    let w = c .before .before .before .before .before .before .before .before .passed in
+    let room = c .before .before .before .before .before .before .before .before .before .before .if1 .left in
+    let bad : w .result .good ≡ false = not-true (w .result .good) (c .before .before .before .before .if2 .taken) in
+    let same : length (w .last .1 .1 .1 .1 .0) ≡ length (now (a .kept)) = omega (arith, w .kept) in
+    (w .ensures .0 ∙ is-found (now (a .e)) (a .at) (a .check) (a .st) (now (a .kept)) (omega arith), c .before .before .clear2 .ensures ∙ rw same (bad-kept (now (a .e)) (a .at) (a .check) (a .st) (now (a .kept)) (omega arith) (sym (ap (λ f. f .good) (w .ensures .0)) ∙ bad)))
 
-element-copy-out-dx : tie.Need-element-copy-out-dx Inv-loop μ-loop
-element-copy-out-dx c = omega arith
+same-length-3 : tie.Need-same-length-3
+same-length-3 c = search needs
 
-mul-dy : tie.Need-mul-dy Inv-loop μ-loop
-mul-dy c = omega arith
-
-element-copy-out-dy : tie.Need-element-copy-out-dy Inv-loop μ-loop
-element-copy-out-dy c = omega arith
-
-mul-resolutions : tie.Need-mul-resolutions Inv-loop μ-loop
-mul-resolutions c = omega arith
-
-element-copy-out-resolutions : tie.Need-element-copy-out-resolutions Inv-loop μ-loop
-element-copy-out-resolutions c = omega arith
-
-component-requires : tie.Need-component-requires Inv-loop μ-loop
-component-requires c κs = let a = c .before .before .before .before .before .before .before .before .before .args in
-    let l = c .before .before .before .before .loop in
-    let p = c .before .before .before .before .before .before .of .result in
-    let small : Small p = rw (c .before .before .before .before .before .before .of .ensures) (places-small (a .at)) in
-    let near = l .inv .1 .near in
-    let apart = small .apart in
-    (omega arith, apart)
-
-joined-requires : tie.Need-joined-requires Inv-loop μ-loop
-joined-requires c κs = search needs
-
-uint-max-requires : tie.Need-uint-max-requires Inv-loop μ-loop
-uint-max-requires c κs = search needs
-
-mul-xs : tie.Need-mul-xs Inv-loop μ-loop
-mul-xs c = omega arith
-
-array-write-xs : tie.Need-array-write-xs Inv-loop μ-loop
-array-write-xs c = omega arith
-
-mul-ys : tie.Need-mul-ys Inv-loop μ-loop
-mul-ys c = omega arith
-
-array-write-ys : tie.Need-array-write-ys Inv-loop μ-loop
-array-write-ys c = omega arith
-
-cast-place : tie.Need-cast-place Inv-loop μ-loop
-cast-place c = search needs
-
-mul-place : tie.Need-mul-place Inv-loop μ-loop
-mul-place c = let a = c .before .before .before .before .before .before .before .before .before .before .before .before .before .before .args in
-    let l = c .before .before .before .before .before .before .before .before .before .loop in
-    let p = c .before .before .before .before .before .before .before .before .before .before .before .of .result in
-    let one = c .before .before .before .before .component in
-    let small : Small p = rw (c .before .before .before .before .before .before .before .before .before .before .before .of .ensures) (places-small (a .at)) in
-    omega (arith, room (l .inv .1) (one .ensures) small (omega (arith, c .before .before .before .before .before .before .before .before .loop-test .taken, c .before .before .before .before .before .before .before .before .before .before .before .before .if1 .left)) (c .before .before .before .if2 .taken))
-
-add-place : tie.Need-add-place Inv-loop μ-loop
-add-place c = let a = c .before .before .before .before .before .before .before .before .before .before .before .before .before .before .before .args in
-    let l = c .before .before .before .before .before .before .before .before .before .before .loop in
-    let p = c .before .before .before .before .before .before .before .before .before .before .before .before .of .result in
-    let one = c .before .before .before .before .before .component in
-    let small : Small p = rw (c .before .before .before .before .before .before .before .before .before .before .before .before .of .ensures) (places-small (a .at)) in
-    omega (arith, room (l .inv .1) (one .ensures) small (omega (arith, c .before .before .before .before .before .before .before .before .before .loop-test .taken, c .before .before .before .before .before .before .before .before .before .before .before .before .before .if1 .left)) (c .before .before .before .before .if2 .taken))
-
-add-place-2 : tie.Need-add-place-2 Inv-loop μ-loop
-add-place-2 c = let a = c .before .before .before .before .before .before .before .before .before .before .before .before .before .before .before .args in
-    let l = c .before .before .before .before .before .before .before .before .before .before .loop in
-    let p = c .before .before .before .before .before .before .before .before .before .before .before .before .of .result in
-    let one = c .before .before .before .before .before .component in
-    let small : Small p = rw (c .before .before .before .before .before .before .before .before .before .before .before .before .of .ensures) (places-small (a .at)) in
-    omega (arith, room (l .inv .1) (one .ensures) small (omega (arith, c .before .before .before .before .before .before .before .before .before .loop-test .taken, c .before .before .before .before .before .before .before .before .before .before .before .before .before .if1 .left)) (c .before .before .before .before .if2 .taken))
-
-add-c : tie.Need-add-c Inv-loop μ-loop
-add-c c = omega arith
-
-loop-less : tie.Need-loop-less Inv-loop μ-loop
-loop-less c = omega arith
-
-loop-again : tie.Need-loop-again Inv-loop μ-loop
-loop-again c = let a = c .before .before .before .before .before .before .before .before .before .before .before .before .before .before .before .args in
-    let l = c .before .before .before .before .before .before .before .before .before .before .loop in
-    let p = c .before .before .before .before .before .before .before .before .before .before .before .before .of .result in
-    let small : Small p = rw (c .before .before .before .before .before .before .before .before .before .before .before .before .of .ensures) (places-small (a .at)) in
-    let one = c .before .before .before .before .before .component in
-    (omega arith, rw (c .before .before .before .joined .ensures, c .before .before .uint-max .ensures) (seen-more (l .inv .1) (one .ensures) small (omega (arith, c .before .before .before .before .before .before .before .before .before .loop-test .taken, c .before .before .before .before .before .before .before .before .before .before .before .before .before .if1 .left)) (c .before .before .before .before .if2 .taken)))
-
-none-requires-2 : tie.Need-none-requires-2 Inv-loop μ-loop
-none-requires-2 c κs = search needs
-
-returns-2 : tie.Need-returns-2 Inv-loop μ-loop
-returns-2 c = let a = c .before .before .before .before .before .before .before .before .before .before .before .before .args in
-    let l = c .before .before .before .before .before .before .before .loop in
-    let p = c .before .before .before .before .before .before .before .before .before .of .result in
-    let one = c .before .before .component in
-    c .none2 .ensures ∙ sym (survey-in (a .e .now) (a .at) (a .check) (a .t4) p (c .before .before .before .before .before .before .before .before .before .of .ensures) ∙ seen-bad (l .inv .1) (one .ensures) (omega arith) (c .before .if2 .left))
-
-wanted-requires : tie.Need-wanted-requires Inv-loop μ-loop
-wanted-requires c κs = search needs
-
-of-requires-2 : tie.Need-of-requires-2 Inv-loop μ-loop
-of-requires-2 c κs = let a = c .before .before .before .before .before .before .before .before .before .args in
-    let l = c .before .before .before .before .loop in
-    let p = c .before .before .before .before .before .before .of .result in
-    let end : l .c ≡ a .t4 .components = omega arith in
-    let s : Seen (a .e .now) p (a .check) (a .t4) (l .place) (l .all) (l .max-res) (l .xs) (l .ys) (a .t4 .components) = rw end at (l .inv .1) in
-    (omega arith, s .shallow, above-x s, above-y s)
-
-returns-3 : tie.Need-returns-3 Inv-loop μ-loop
-returns-3 c = let a = c .before .before .before .before .before .before .before .before .before .before .args in
-    let l = c .before .before .before .before .before .loop in
-    let p = c .before .before .before .before .before .before .before .of .result in
-    let end : l .c ≡ a .t4 .components = omega arith in
-    let s : Seen (a .e .now) p (a .check) (a .t4) (l .place) (l .all) (l .max-res) (l .xs) (l .ys) (a .t4 .components) = rw end at (l .inv .1) in
-    rw (c .of2 .ensures, c .before .before .before .wanted .ensures)
-    (found-is s (omega arith) ∙ sym (survey-in (a .e .now) (a .at) (a .check) (a .t4) p (c .before .before .before .before .before .before .before .of .ensures)))
+returns-3 : tie.Need-returns-3
+returns-3 c = let a = c .before .before .before .before .before .before .before .before .before .args in
+    let w = c .before .before .before .before .passed in
+    let room = c .before .before .before .before .before .before .if1 .left in
+    let good : w .result .good ≡ true = not-false (w .result .good) (c .if2 .left) in
+    (w .ensures .0 ∙ is-found (now (a .e)) (a .at) (a .check) (a .st) (now (a .kept)) (omega arith), w .ensures .1 good ∙ good-kept (now (a .e)) (a .at) (a .check) (a .st) (now (a .kept)) (omega arith) (sym (ap (λ f. f .good) (w .ensures .0)) ∙ good))
 
 pub survey-spec : {M : Type 1} → statement M
 survey-spec =
     tie.close
     (tie.spec
-    Inv-loop
-    μ-loop
+    clear-requires
     none-requires
+    same-length
     returns
-    cast-n
-    of-requires
-    start-requires
-    loop-holds
-    mul-dx
-    element-copy-out-dx
-    mul-dy
-    element-copy-out-dy
-    mul-resolutions
-    element-copy-out-resolutions
-    component-requires
-    joined-requires
-    uint-max-requires
-    mul-xs
-    array-write-xs
-    mul-ys
-    array-write-ys
-    cast-place
-    mul-place
-    add-place
-    add-place-2
-    add-c
-    loop-less
-    loop-again
-    none-requires-2
+    passed-requires
+    clear-requires-2
+    same-length-2
     returns-2
-    wanted-requires
-    of-requires-2
+    same-length-3
     returns-3)

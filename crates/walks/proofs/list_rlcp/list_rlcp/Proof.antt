@@ -8,7 +8,7 @@ use native.Mathlib.Omega.{arith}
 use Rattle.walks.specs.Walk.{Counted, counted-long}
 use Rattle.walks.specs.Going.{Rest}
 use Rattle.walks.specs.Listing.{Listing, first-listed, goes-on, one-listed, then-listed, listed-few, all-listed}
-use Rattle.walks.specs.Counts.{placeOf, leftC, leftK, inC, outC, onC, inK, outK, Stands, held, count-is, below, mark-is, mark-fits, mark-there}
+use Rattle.walks.specs.Counts.{leftC, leftK, inC, outC, onC, inK, outK, Stands, held, count-is, below, mark-is, mark-fits, mark-there}
 use Rattle.walks.specs.Rlcp.{wholly, enter, leftR, leftL, afterL, inR, outR, inL, outL, onR, onL}
 use Rattle.walks.specs.declared.walk.Walk.{Walk}
 use Rattle.walks.proofs.list_rlcp.list_rlcp.Statement.{statement}
@@ -16,38 +16,38 @@ use Rattle.walks.proofs.list_rlcp.list_rlcp.Tie as tie
 
 -- from one rest to another
 abbrev Kept : List ℕ → List ℕ → List ℕ → Walk → ℕ → Rest → List ℕ → List ℕ → ℕ → Rest → Type 0
-Kept marks₀ output₀ prep w n entry marks output count rest = Listing (λ s g. Counted s g prep w marks₀) marks₀ output₀ n entry marks output count rest
+Kept marks₀ output₀ counts w n entry marks output count rest = Listing (λ s g. Counted s g counts w marks₀) marks₀ output₀ n entry marks output count rest
 
 abbrev Inv-ks : tie.InvT-ks
-Inv-ks marks₀ output₀ prep w n layno1 resno0 resno1 compno0 compno1 count₀ r l c precincts k₀ marks output count k =
-    Kept marks₀ output₀ prep w count₀ (leftK (afterL r l) l r c 0) marks output count (leftK (afterL r l) l r c k)
+Inv-ks marks₀ output₀ counts w n layno1 resno0 resno1 compno0 compno1 count₀ r l c precincts k₀ marks output count k =
+    Kept marks₀ output₀ counts w count₀ (leftK (afterL r l) l r c 0) marks output count (leftK (afterL r l) l r c k)
 
 abbrev μ-ks : tie.MeasureT-ks
-μ-ks marks₀ output₀ prep w n layno1 resno0 resno1 compno0 compno1 count₀ r l c precincts k₀ marks output count k =
+μ-ks marks₀ output₀ counts w n layno1 resno0 resno1 compno0 compno1 count₀ r l c precincts k₀ marks output count k =
     precincts - k
 
 abbrev Inv-cs : tie.InvT-cs
-Inv-cs marks₀ output₀ prep w n layno1 resno0 resno1 compno0 compno1 count₀ r l c₀ marks output count c =
-    (w .compno0 ≤ c) × Kept marks₀ output₀ prep w count₀ (leftC (afterL r l) l r (w .compno0) 0) marks output count (leftC (afterL r l) l r c 0)
+Inv-cs marks₀ output₀ counts w n layno1 resno0 resno1 compno0 compno1 count₀ r l c₀ marks output count c =
+    (w .compno0 ≤ c) × Kept marks₀ output₀ counts w count₀ (leftC (afterL r l) l r (w .compno0) 0) marks output count (leftC (afterL r l) l r c 0)
 
 abbrev μ-cs : tie.MeasureT-cs
-μ-cs marks₀ output₀ prep w n layno1 resno0 resno1 compno0 compno1 count₀ r l c₀ marks output count c =
+μ-cs marks₀ output₀ counts w n layno1 resno0 resno1 compno0 compno1 count₀ r l c₀ marks output count c =
     w .compno1 - c
 
 abbrev Inv-ls : tie.InvT-ls
-Inv-ls marks₀ output₀ prep w n layno1 resno0 resno1 compno0 compno1 count₀ r l₀ marks output count l =
-    Kept marks₀ output₀ prep w count₀ (leftL r 0 (w .compno0) 0) marks output count (leftL r l (w .compno0) 0)
+Inv-ls marks₀ output₀ counts w n layno1 resno0 resno1 compno0 compno1 count₀ r l₀ marks output count l =
+    Kept marks₀ output₀ counts w count₀ (leftL r 0 (w .compno0) 0) marks output count (leftL r l (w .compno0) 0)
 
 abbrev μ-ls : tie.MeasureT-ls
-μ-ls marks₀ output₀ prep w n layno1 resno0 resno1 compno0 compno1 count₀ r l₀ marks output count l =
+μ-ls marks₀ output₀ counts w n layno1 resno0 resno1 compno0 compno1 count₀ r l₀ marks output count l =
     w .layno1 - l
 
 abbrev Inv-rs : tie.InvT-rs
-Inv-rs marks₀ output₀ prep w n layno1 resno0 resno1 compno0 compno1 count₀ r₀ marks output count r =
-    (w .resno0 ≤ r) × Kept marks₀ output₀ prep w n (wholly w) marks output count (leftR r 0 (w .compno0) 0)
+Inv-rs marks₀ output₀ counts w n layno1 resno0 resno1 compno0 compno1 count₀ r₀ marks output count r =
+    (w .resno0 ≤ r) × Kept marks₀ output₀ counts w n (wholly w) marks output count (leftR r 0 (w .compno0) 0)
 
 abbrev μ-rs : tie.MeasureT-rs
-μ-rs marks₀ output₀ prep w n layno1 resno0 resno1 compno0 compno1 count₀ r₀ marks output count r =
+μ-rs marks₀ output₀ counts w n layno1 resno0 resno1 compno0 compno1 count₀ r₀ marks output count r =
     w .resno1 - r
 
 -- the numbers of the loops stand inside the ranges
@@ -62,15 +62,15 @@ stands c =
     }
 
 -- from the whole to what is left where each loop stands
-at-ls : (c : tie.In-rs Inv-ks μ-ks Inv-cs μ-cs Inv-ls μ-ls Inv-rs μ-rs) → (let a = c .before .before .before .before .args in Kept (a .marks .now) (a .output .now) (a .prep .now) (a .w) (a .n) (wholly (a .w)) (c .before .rs .marks) (c .before .rs .output) (c .before .rs .count) (leftL (c .before .rs .r) 0 (a .w .compno0) 0))
+at-ls : (c : tie.In-rs Inv-ks μ-ks Inv-cs μ-cs Inv-ls μ-ls Inv-rs μ-rs) → (let a = c .before .before .before .before .args in Kept (a .marks .now) (a .output .now) (a .counts .now) (a .w) (a .n) (wholly (a .w)) (c .before .rs .marks) (c .before .rs .output) (c .before .rs .count) (leftL (c .before .rs .r) 0 (a .w .compno0) 0))
 at-ls c = goes-on _ _ _ _ _ _ (c .before .rs .inv .1) _ (λ s g h. inR s g _ _ _ _ (rw (h .ranged .resno1) at (c .rs-test .taken)))
 
-at-cs : (c : tie.In-ls Inv-ks μ-ks Inv-cs μ-cs Inv-ls μ-ls Inv-rs μ-rs) → (let a = c .before .before .before .before .before .before .args in Kept (a .marks .now) (a .output .now) (a .prep .now) (a .w) (a .n) (wholly (a .w)) (c .before .ls .marks) (c .before .ls .output) (c .before .ls .count) (leftC (afterL (c .before .before .before .rs .r) (c .before .ls .l)) (c .before .ls .l) (c .before .before .before .rs .r) (a .w .compno0) 0))
+at-cs : (c : tie.In-ls Inv-ks μ-ks Inv-cs μ-cs Inv-ls μ-ls Inv-rs μ-rs) → (let a = c .before .before .before .before .before .before .args in Kept (a .marks .now) (a .output .now) (a .counts .now) (a .w) (a .n) (wholly (a .w)) (c .before .ls .marks) (c .before .ls .output) (c .before .ls .count) (leftC (afterL (c .before .before .before .rs .r) (c .before .ls .l)) (c .before .ls .l) (c .before .before .before .rs .r) (a .w .compno0) 0))
 at-cs c =
     goes-on _ _ _ _ _ _ (then-listed _ _ _ _ _ (at-ls (c .before .before)) (c .before .ls .inv) (λ s g h. counted-long s g _ _ _ _ (c .before .before .before .rs .inv .1 .long) h)) _
     (λ s g h. inL s g _ _ _ _ (rw (h .ranged .layno1) at (c .ls-test .taken)))
 
-at-ks : (c : tie.In-ks Inv-ks μ-ks Inv-cs μ-cs Inv-ls μ-ls Inv-rs μ-rs) → (let a = c .before .before .before .before .before .before .before .before .before .before .before .args in Kept (a .marks .now) (a .output .now) (a .prep .now) (a .w) (a .n) (wholly (a .w)) (c .before .ks .marks) (c .before .ks .output) (c .before .ks .count) (leftK (afterL (c .before .before .before .before .before .before .before .before .rs .r) (c .before .before .before .before .before .before .ls .l)) (c .before .before .before .before .before .before .ls .l) (c .before .before .before .before .before .before .before .before .rs .r) (c .before .before .before .before .cs .c) (c .before .ks .k)))
+at-ks : (c : tie.In-ks Inv-ks μ-ks Inv-cs μ-cs Inv-ls μ-ls Inv-rs μ-rs) → (let a = c .before .before .before .before .before .before .before .before .before .before .before .args in Kept (a .marks .now) (a .output .now) (a .counts .now) (a .w) (a .n) (wholly (a .w)) (c .before .ks .marks) (c .before .ks .output) (c .before .ks .count) (leftK (afterL (c .before .before .before .before .before .before .before .before .rs .r) (c .before .before .before .before .before .before .ls .l)) (c .before .before .before .before .before .before .ls .l) (c .before .before .before .before .before .before .before .before .rs .r) (c .before .before .before .before .cs .c) (c .before .ks .k)))
 at-ks c =
     let t = then-listed _ _ _ _ _ (at-cs (c .before .before .before .before .before)) (c .before .before .before .before .cs .inv .1) (λ s g h. counted-long s g _ _ _ _ (at-cs (c .before .before .before .before .before) .long) h) in
     then-listed _ _ _ _ _ (goes-on _ _ _ _ _ _ t _ (λ s g h. inC s g _ _ _ _ _ (rw (h .ranged .compno1) at (c .before .before .before .cs-test .taken)))) (c .before .ks .inv)

@@ -23,38 +23,38 @@ use Rattle.walks.proofs.lrcp.lrcp.Tie as tie
 
 -- nothing is found yet, and the rest answers as the whole at entry
 abbrev Kept : List ℕ → List ℕ → Walk → ℕ → ℕ → ℕ → ℕ → Bool → Rest → Type 0
-Kept marks prep w l r c k found rest = Going (λ s g. Counted s g prep w marks) marks found (entry l r c k) rest
+Kept marks counts w l r c k found rest = Going (λ s g. Counted s g counts w marks) marks found (entry l r c k) rest
 
 abbrev Inv-ks : tie.InvT-ks
-Inv-ks marks prep w l-from r-from c-from k-from layno1 resno0 resno1 compno0 compno1 r-at c-at k-at found₀ place₀ l r c count k₀ found place k =
-    Kept marks prep w l-from r-from c-from k-from found (leftK (afterR l r) l r c k)
+Inv-ks marks counts w l-from r-from c-from k-from layno1 resno0 resno1 compno0 compno1 r-at c-at k-at found₀ place₀ l r c count k₀ found place k =
+    Kept marks counts w l-from r-from c-from k-from found (leftK (afterR l r) l r c k)
 
 abbrev μ-ks : tie.MeasureT-ks
-μ-ks marks prep w l-from r-from c-from k-from layno1 resno0 resno1 compno0 compno1 r-at c-at k-at found₀ place₀ l r c count k₀ found place k =
+μ-ks marks counts w l-from r-from c-from k-from layno1 resno0 resno1 compno0 compno1 r-at c-at k-at found₀ place₀ l r c count k₀ found place k =
     count - k
 
 abbrev Inv-cs : tie.InvT-cs
-Inv-cs marks prep w l-from r-from c-from k-from layno1 resno0 resno1 compno0 compno1 r-at c-at k-at₀ found₀ place₀ l r c₀ k-at found place c =
-    (w .compno0 ≤ c) × Kept marks prep w l-from r-from c-from k-from found (leftC (afterR l r) l r c k-at)
+Inv-cs marks counts w l-from r-from c-from k-from layno1 resno0 resno1 compno0 compno1 r-at c-at k-at₀ found₀ place₀ l r c₀ k-at found place c =
+    (w .compno0 ≤ c) × Kept marks counts w l-from r-from c-from k-from found (leftC (afterR l r) l r c k-at)
 
 abbrev μ-cs : tie.MeasureT-cs
-μ-cs marks prep w l-from r-from c-from k-from layno1 resno0 resno1 compno0 compno1 r-at c-at k-at₀ found₀ place₀ l r c₀ k-at found place c =
+μ-cs marks counts w l-from r-from c-from k-from layno1 resno0 resno1 compno0 compno1 r-at c-at k-at₀ found₀ place₀ l r c₀ k-at found place c =
     w .compno1 - c
 
 abbrev Inv-rs : tie.InvT-rs
-Inv-rs marks prep w l-from r-from c-from k-from layno1 resno0 resno1 compno0 compno1 r-at c-at₀ k-at₀ found₀ place₀ l r₀ c-at k-at found place r =
-    (w .resno0 ≤ r) × (w .compno0 ≤ c-at) × Kept marks prep w l-from r-from c-from k-from found (leftR l r c-at k-at)
+Inv-rs marks counts w l-from r-from c-from k-from layno1 resno0 resno1 compno0 compno1 r-at c-at₀ k-at₀ found₀ place₀ l r₀ c-at k-at found place r =
+    (w .resno0 ≤ r) × (w .compno0 ≤ c-at) × Kept marks counts w l-from r-from c-from k-from found (leftR l r c-at k-at)
 
 abbrev μ-rs : tie.MeasureT-rs
-μ-rs marks prep w l-from r-from c-from k-from layno1 resno0 resno1 compno0 compno1 r-at c-at₀ k-at₀ found₀ place₀ l r₀ c-at k-at found place r =
+μ-rs marks counts w l-from r-from c-from k-from layno1 resno0 resno1 compno0 compno1 r-at c-at₀ k-at₀ found₀ place₀ l r₀ c-at k-at found place r =
     w .resno1 - r
 
 abbrev Inv-search : tie.InvT-search
-Inv-search marks prep w l-from r-from c-from k-from layno1 resno0 resno1 compno0 compno1 r-at₀ c-at₀ k-at₀ found₀ place₀ l₀ r-at c-at k-at found place l =
-    (w .resno0 ≤ r-at) × (w .compno0 ≤ c-at) × Kept marks prep w l-from r-from c-from k-from found (leftL l r-at c-at k-at)
+Inv-search marks counts w l-from r-from c-from k-from layno1 resno0 resno1 compno0 compno1 r-at₀ c-at₀ k-at₀ found₀ place₀ l₀ r-at c-at k-at found place l =
+    (w .resno0 ≤ r-at) × (w .compno0 ≤ c-at) × Kept marks counts w l-from r-from c-from k-from found (leftL l r-at c-at k-at)
 
 abbrev μ-search : tie.MeasureT-search
-μ-search marks prep w l-from r-from c-from k-from layno1 resno0 resno1 compno0 compno1 r-at₀ c-at₀ k-at₀ found₀ place₀ l₀ r-at c-at k-at found place l =
+μ-search marks counts w l-from r-from c-from k-from layno1 resno0 resno1 compno0 compno1 r-at₀ c-at₀ k-at₀ found₀ place₀ l₀ r-at c-at k-at found place l =
     w .layno1 - l
 
 -- the numbers of the loops stand inside the ranges
@@ -75,7 +75,7 @@ read-here :
     (c : tie.After-is-free Inv-ks μ-ks Inv-cs μ-cs Inv-rs μ-rs Inv-search μ-search) (s : Sheet) (g : Range)
     → (let a = c .before .before .before .before .before .before .before .before .before .before .before .before .args in
     let k = c .before .before .before .ks .k in
-    Counted s g (a .prep .now) (a .w) (a .marks .now) → (t : Bool) → c .is-free .result ≡ t
+    Counted s g (a .counts .now) (a .w) (a .marks .now) → (t : Bool) → c .is-free .result ≡ t
     → (k < precincts s (c .before .before .before .before .before .before .cs .c) (c .before .before .before .before .before .before .before .before .rs .r))
     × (eqb (getD (a .marks .now) (indexOf (s .st) (placeOf (c .before .before .before .before .before .before .before .before .before .before .search .l) (c .before .before .before .before .before .before .before .before .rs .r) (c .before .before .before .before .before .before .cs .c) k)) 0) 0 ≡ t))
 read-here c s g h t e =
@@ -88,7 +88,7 @@ read-here c s g h t e =
 found-here :
     (c : tie.Then1 Inv-ks μ-ks Inv-cs μ-cs Inv-rs μ-rs Inv-search μ-search) (s : Sheet) (g : Range)
     → (let a = c .before .before .before .before .before .before .before .before .before .before .before .before .before .args in
-    Counted s g (a .prep .now) (a .w) (a .marks .now)
+    Counted s g (a .counts .now) (a .w) (a .marks .now)
     → seek (indexOf (s .st)) (a .marks .now) (entry (a .l-from) (a .r-from) (a .c-from) (a .k-from) s g)
     ≡ Packet (placeOf (c .before .before .before .before .before .before .before .before .before .before .before .search .l) (c .before .before .before .before .before .before .before .before .before .rs .r) (c .before .before .before .before .before .before .before .cs .c) (c .before .before .before .before .ks .k)))
 found-here c s g h =
@@ -175,7 +175,7 @@ search-again c = (
 left :
     (c : tie.Left-search Inv-ks μ-ks Inv-cs μ-cs Inv-rs μ-rs Inv-search μ-search)
     → (let a = c .before .before .before .args in
-    Left (λ s g. Counted s g (a .prep .now) (a .w) (a .marks .now)) (a .marks .now) (entry (a .l-from) (a .r-from) (a .c-from) (a .k-from))
+    Left (λ s g. Counted s g (a .counts .now) (a .w) (a .marks .now)) (a .marks .now) (entry (a .l-from) (a .r-from) (a .c-from) (a .k-from))
     (c .search-test .found) (c .search-test .place))
 left c =
     ⊎-elim

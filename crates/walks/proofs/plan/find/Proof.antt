@@ -1,23 +1,17 @@
 -- `find`: a planned progression is searched by its order, or it has no positions. Assumes nothing.
 use native.Mathlib.Omega.{arith}
-use Rattle.walks.specs.Plan.{ended-after, planned-none, planned-ordered}
+use Rattle.walks.specs.Plan.{ended-after, planned-none, planned-searched}
 use Rattle.walks.proofs.plan.find.Statement.{statement}
 use Rattle.walks.proofs.plan.find.Tie as tie
-use Rattle.walks.proofs.plan.find.Reads as reads
-use Rattle.walks.proofs.plan.find.Lts as lts
-use Rattle.walks.proofs.search.search.Reads as search-reads
 
--- src/plan.rt:77:9
 returns : tie.Need-returns
-returns c = λ st table k d h. ended-after st _ (c .before .before .before .args .place) (planned-none st table k _ _ _ d (omega (arith, c .if1 .taken)))
+returns c = λ st table k d p h. ended-after st _ (c .before .before .before .args .place) (planned-none st table k _ _ _ d (omega (arith, c .if1 .taken)))
 
--- src/plan.rt:79:5
 search-requires : tie.Need-search-requires
-search-requires c κs = let w = c .before .before .before .pre in let d = w .1 .1 .1 in (_, (_, (_, planned-ordered (w .0) (w .1 .0) (w .1 .1 .0) _ _ _ d (λ z. omega (arith, z, c .if1 .left)), w .1 .1 .2)))
+search-requires c κs = let w = c .before .before .before .pre in let d = w .1 .1 .1 in (_, (_, (_, planned-searched (w .0) (w .1 .0) (w .1 .1 .0) _ _ _ d (λ z. omega (arith, z, c .if1 .left)) (w .1 .1 .2), w .1 .1 .3)))
 
--- src/plan.rt:72:1
 returns-2 : tie.Need-returns-2
-returns-2 c = λ st table k d h. c .search .ensures _ _ _ (planned-ordered st table k _ _ _ d (λ z. omega (arith, z, c .before .if1 .left))) h
+returns-2 c = λ st table k d p h. c .search .ensures _ _ _ (planned-searched st table k _ _ _ d (λ z. omega (arith, z, c .before .if1 .left)) p) h
 
 pub find-spec : {M : Type 1} → statement M
 find-spec = tie.close (tie.spec returns search-requires returns-2)

@@ -12,37 +12,26 @@ use Rattle.walks.specs.Plan.{plan-walk, plan-empty, plan-bad, plan-good}
 use borrow.Author.Needs.{needs}
 use Rattle.walks.proofs.plan.plan_for.Statement.{statement}
 use Rattle.walks.proofs.plan.plan_for.Tie as tie
-use Rattle.walks.proofs.plan.plan_for.Reads as reads
-use Rattle.walks.proofs.plan.plan_for.Lts as lts
-use Rattle.sheets.proofs.ranges.order_of.Reads as order-of-reads
-use Rattle.sheets.proofs.ranges.range_of.Reads as range-of-reads
-use Rattle.walks.proofs.plan.walk_of.Reads as walk-of-reads
 
 -- an order that was handed on by its bits
 order-said : (z : ℤ) → SFits w32 z → {n : ℕ} → n ≡ orderNumber (orderOf (toZ w32 (ofZ w32 z))) → n ≡ orderNumber (orderOf z)
 order-said z f e = rw (toZ-ofZ f) at e
 
--- src/plan.rt:58:9
 range-of-requires : tie.Need-range-of-requires
 range-of-requires c κs = search needs
 
--- src/plan.rt:59:9
 walk-of-requires : tie.Need-walk-of-requires
 walk-of-requires c κs = search needs
 
--- src/plan.rt:61:9
 returns : tie.Need-returns
 returns c = (plan-empty (c .before .before .before .before .args .st) (c .before .before .before .before .args .q) _ (c .before .before .before .range-of .ensures) (omega (arith, c .if1 .taken)), plan-walk (c .before .before .before .before .args .st) (c .before .before .before .before .args .q) _ (c .before .before .before .range-of .ensures) _ (c .before .before .walk-of .ensures))
 
--- src/plan.rt:65:20
 order-of-requires : tie.Need-order-of-requires
 order-of-requires c κs = search needs
 
--- src/plan.rt:64:9
 returns-2 : tie.Need-returns-2
 returns-2 c = (plan-good (c .before .before .before .before .before .before .before .before .before .before .before .args .st) (c .before .before .before .before .before .before .before .before .before .before .before .args .q) _ (c .before .before .before .before .before .before .before .before .before .before .range-of .ensures) (λ z. omega (arith, z, c .before .before .before .before .before .before .before .if1 .left)) _ (c .before .before .if2 .taken) (order-said (c .before .before .before .before .before .before .before .before .before .before .before .args .q .prg) (search needs) (c .order-of .ensures)), plan-walk (c .before .before .before .before .before .before .before .before .before .before .before .args .st) (c .before .before .before .before .before .before .before .before .before .before .before .args .q) _ (c .before .before .before .before .before .before .before .before .before .before .range-of .ensures) _ (c .before .before .before .before .before .before .before .before .before .walk-of .ensures))
 
--- src/plan.rt:54:1
 returns-3 : tie.Need-returns-3
 returns-3 c = (plan-bad (c .before .before .before .before .before .before .before .before .before .args .st) (c .before .before .before .before .before .before .before .before .before .args .q) _ (c .before .before .before .before .before .before .before .before .range-of .ensures) (λ z. omega (arith, z, c .before .before .before .before .before .if1 .left)) (c .if2 .left), plan-walk (c .before .before .before .before .before .before .before .before .before .args .st) (c .before .before .before .before .before .before .before .before .before .args .q) _ (c .before .before .before .before .before .before .before .before .range-of .ensures) _ (c .before .before .before .before .before .before .before .walk-of .ensures))
 

@@ -1,4 +1,4 @@
--- `prepare_entry`: the eight numbers are written as in the definition, from the words of the entry. Assumes nothing.
+-- `prepare_entry`: the seven numbers are written as in the definition, from the words of the entry. Assumes nothing.
 use Rattle.walks.specs.Prepare.{putEntry}
 use native.Mathlib.Omega.{arith}
 use borrow.Author.Needs.{needs}
@@ -26,8 +26,8 @@ add-word-at-3 c = search needs
 word-at-requires-4 : tie.Need-word-at-requires-4
 word-at-requires-4 c κs = search needs
 
-mul-count : tie.Need-mul-count
-mul-count c = rw (c .word-at4 .ensures, c .before .word-at3 .ensures) (omega (arith, c .before .before .before .before .before .pre .0 .few))
+mul-shown : tie.Need-mul-shown
+mul-shown c = rw (c .word-at4 .ensures, c .before .word-at3 .ensures) (omega (arith, c .before .before .before .before .before .pre .0 .few))
 
 shown-requires : tie.Need-shown-requires
 shown-requires c κs = search needs
@@ -50,15 +50,6 @@ add-prepare-axis-2 c = search needs
 prepare-axis-requires-2 : tie.Need-prepare-axis-requires-2
 prepare-axis-requires-2 c κs = search needs
 
-add-prep : tie.Need-add-prep
-add-prep c = search needs
-
-mul-prep-2 : tie.Need-mul-prep-2
-mul-prep-2 c = search needs
-
-element-write-prep-2 : tie.Need-element-write-prep-2
-element-write-prep-2 c = search needs
-
 returns : tie.Need-returns
 unfolding putEntry
 returns c = rw (c .prepare-axis2 .ensures, c .before .before .prepare-axis .ensures, c .before .before .before .before .shown .ensures, c .before .before .before .before .before .word-at4 .ensures, c .before .before .before .before .before .before .word-at3 .ensures, c .before .before .before .before .before .before .before .word-at2 .ensures, c .before .before .before .before .before .before .before .before .word-at .ensures)
@@ -74,7 +65,7 @@ prepare-entry-spec =
     word-at-requires-3
     add-word-at-3
     word-at-requires-4
-    mul-count
+    mul-shown
     shown-requires
     mul-prep
     element-write-prep
@@ -82,7 +73,4 @@ prepare-entry-spec =
     prepare-axis-requires
     add-prepare-axis-2
     prepare-axis-requires-2
-    add-prep
-    mul-prep-2
-    element-write-prep-2
     returns)

@@ -23,38 +23,38 @@ use Rattle.walks.proofs.rlcp.rlcp.Tie as tie
 
 -- nothing is found yet, and the rest answers as the whole at entry
 abbrev Kept : List ℕ → List ℕ → Walk → ℕ → ℕ → ℕ → ℕ → Bool → Rest → Type 0
-Kept marks prep w r l c k found rest = Going (λ s g. Counted s g prep w marks) marks found (entry r l c k) rest
+Kept marks counts w r l c k found rest = Going (λ s g. Counted s g counts w marks) marks found (entry r l c k) rest
 
 abbrev Inv-ks : tie.InvT-ks
-Inv-ks marks prep w r-from l-from c-from k-from layno1 resno1 compno0 compno1 l-at c-at k-at found₀ place₀ r l c count k₀ found place k =
-    Kept marks prep w r-from l-from c-from k-from found (leftK (afterL r l) l r c k)
+Inv-ks marks counts w r-from l-from c-from k-from layno1 resno1 compno0 compno1 l-at c-at k-at found₀ place₀ r l c count k₀ found place k =
+    Kept marks counts w r-from l-from c-from k-from found (leftK (afterL r l) l r c k)
 
 abbrev μ-ks : tie.MeasureT-ks
-μ-ks marks prep w r-from l-from c-from k-from layno1 resno1 compno0 compno1 l-at c-at k-at found₀ place₀ r l c count k₀ found place k =
+μ-ks marks counts w r-from l-from c-from k-from layno1 resno1 compno0 compno1 l-at c-at k-at found₀ place₀ r l c count k₀ found place k =
     count - k
 
 abbrev Inv-cs : tie.InvT-cs
-Inv-cs marks prep w r-from l-from c-from k-from layno1 resno1 compno0 compno1 l-at c-at k-at₀ found₀ place₀ r l c₀ k-at found place c =
-    (w .compno0 ≤ c) × Kept marks prep w r-from l-from c-from k-from found (leftC (afterL r l) l r c k-at)
+Inv-cs marks counts w r-from l-from c-from k-from layno1 resno1 compno0 compno1 l-at c-at k-at₀ found₀ place₀ r l c₀ k-at found place c =
+    (w .compno0 ≤ c) × Kept marks counts w r-from l-from c-from k-from found (leftC (afterL r l) l r c k-at)
 
 abbrev μ-cs : tie.MeasureT-cs
-μ-cs marks prep w r-from l-from c-from k-from layno1 resno1 compno0 compno1 l-at c-at k-at₀ found₀ place₀ r l c₀ k-at found place c =
+μ-cs marks counts w r-from l-from c-from k-from layno1 resno1 compno0 compno1 l-at c-at k-at₀ found₀ place₀ r l c₀ k-at found place c =
     w .compno1 - c
 
 abbrev Inv-ls : tie.InvT-ls
-Inv-ls marks prep w r-from l-from c-from k-from layno1 resno1 compno0 compno1 l-at c-at₀ k-at₀ found₀ place₀ r l₀ c-at k-at found place l =
-    (w .compno0 ≤ c-at) × Kept marks prep w r-from l-from c-from k-from found (leftL r l c-at k-at)
+Inv-ls marks counts w r-from l-from c-from k-from layno1 resno1 compno0 compno1 l-at c-at₀ k-at₀ found₀ place₀ r l₀ c-at k-at found place l =
+    (w .compno0 ≤ c-at) × Kept marks counts w r-from l-from c-from k-from found (leftL r l c-at k-at)
 
 abbrev μ-ls : tie.MeasureT-ls
-μ-ls marks prep w r-from l-from c-from k-from layno1 resno1 compno0 compno1 l-at c-at₀ k-at₀ found₀ place₀ r l₀ c-at k-at found place l =
+μ-ls marks counts w r-from l-from c-from k-from layno1 resno1 compno0 compno1 l-at c-at₀ k-at₀ found₀ place₀ r l₀ c-at k-at found place l =
     w .layno1 - l
 
 abbrev Inv-search : tie.InvT-search
-Inv-search marks prep w r-from l-from c-from k-from layno1 resno1 compno0 compno1 l-at₀ c-at₀ k-at₀ found₀ place₀ r₀ l-at c-at k-at found place r =
-    (w .resno0 ≤ r) × (w .compno0 ≤ c-at) × Kept marks prep w r-from l-from c-from k-from found (leftR r l-at c-at k-at)
+Inv-search marks counts w r-from l-from c-from k-from layno1 resno1 compno0 compno1 l-at₀ c-at₀ k-at₀ found₀ place₀ r₀ l-at c-at k-at found place r =
+    (w .resno0 ≤ r) × (w .compno0 ≤ c-at) × Kept marks counts w r-from l-from c-from k-from found (leftR r l-at c-at k-at)
 
 abbrev μ-search : tie.MeasureT-search
-μ-search marks prep w r-from l-from c-from k-from layno1 resno1 compno0 compno1 l-at₀ c-at₀ k-at₀ found₀ place₀ r₀ l-at c-at k-at found place r =
+μ-search marks counts w r-from l-from c-from k-from layno1 resno1 compno0 compno1 l-at₀ c-at₀ k-at₀ found₀ place₀ r₀ l-at c-at k-at found place r =
     w .resno1 - r
 
 -- the numbers of the loops stand inside the ranges
@@ -75,7 +75,7 @@ read-here :
     (c : tie.After-is-free Inv-ks μ-ks Inv-cs μ-cs Inv-ls μ-ls Inv-search μ-search) (s : Sheet) (g : Range)
     → (let a = c .before .before .before .before .before .before .before .before .before .before .before .before .args in
     let k = c .before .before .before .ks .k in
-    Counted s g (a .prep .now) (a .w) (a .marks .now) → (t : Bool) → c .is-free .result ≡ t
+    Counted s g (a .counts .now) (a .w) (a .marks .now) → (t : Bool) → c .is-free .result ≡ t
     → (k < precincts s (c .before .before .before .before .before .before .cs .c) (c .before .before .before .before .before .before .before .before .before .before .search .r))
     × (eqb (getD (a .marks .now) (indexOf (s .st) (placeOf (c .before .before .before .before .before .before .before .before .ls .l) (c .before .before .before .before .before .before .before .before .before .before .search .r) (c .before .before .before .before .before .before .cs .c) k)) 0) 0 ≡ t))
 read-here c s g h t e =
@@ -88,7 +88,7 @@ read-here c s g h t e =
 found-here :
     (c : tie.Then1 Inv-ks μ-ks Inv-cs μ-cs Inv-ls μ-ls Inv-search μ-search) (s : Sheet) (g : Range)
     → (let a = c .before .before .before .before .before .before .before .before .before .before .before .before .before .args in
-    Counted s g (a .prep .now) (a .w) (a .marks .now)
+    Counted s g (a .counts .now) (a .w) (a .marks .now)
     → seek (indexOf (s .st)) (a .marks .now) (entry (a .r-from) (a .l-from) (a .c-from) (a .k-from) s g)
     ≡ Packet (placeOf (c .before .before .before .before .before .before .before .before .before .ls .l) (c .before .before .before .before .before .before .before .before .before .before .before .search .r) (c .before .before .before .before .before .before .before .cs .c) (c .before .before .before .before .ks .k)))
 found-here c s g h =
@@ -174,7 +174,7 @@ search-again c = (
 left :
     (c : tie.Left-search Inv-ks μ-ks Inv-cs μ-cs Inv-ls μ-ls Inv-search μ-search)
     → (let a = c .before .before .before .args in
-    Left (λ s g. Counted s g (a .prep .now) (a .w) (a .marks .now)) (a .marks .now) (entry (a .r-from) (a .l-from) (a .c-from) (a .k-from))
+    Left (λ s g. Counted s g (a .counts .now) (a .w) (a .marks .now)) (a .marks .now) (entry (a .r-from) (a .l-from) (a .c-from) (a .k-from))
     (c .search-test .found) (c .search-test .place))
 left c =
     ⊎-elim

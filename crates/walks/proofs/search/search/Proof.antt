@@ -5,51 +5,36 @@ use Rattle.walks.specs.Search.{fresh-startable, fresh-found, ended-found
 use borrow.Author.Needs.{needs}
 use Rattle.walks.proofs.search.search.Statement.{statement}
 use Rattle.walks.proofs.search.search.Tie as tie
-use Rattle.walks.proofs.search.search.Reads as reads
-use Rattle.walks.proofs.search.search.Lts as lts
-use Rattle.walks.proofs.search.first.Reads as first-reads
-use Rattle.walks.proofs.search.next_try.Reads as next-try-reads
-use Rattle.walks.proofs.search.walk_from.Reads as walk-from-reads
 
--- src/search.rt:83:58
 enum-told : tie.Need-enum-told
 enum-told c = search needs
 
--- src/search.rt:83:58
 first-requires : tie.Need-first-requires
 first-requires c κs = search needs
 
--- src/search.rt:83:25
 walk-from-requires : tie.Need-walk-from-requires
-walk-from-requires c κs = let w = c .before .before .before .before .pre in let d = w .1 .1 .1 in (w .0, (w .1 .0, (w .1 .1 .0, d, fresh-startable (w .0) (w .1 .0) _ _ _ _ (w .1 .1 .0) d (c .before .before .before .before .args .place) _ (c .first .ensures))))
+walk-from-requires c κs = let w = c .before .before .before .before .pre in let d = w .1 .1 .1 in (w .0, (w .1 .0, (w .1 .1 .0, d, fresh-startable (w .0) (w .1 .0) _ _ _ _ (w .1 .1 .0) (d .ordered) (c .before .before .before .before .args .place) _ (c .first .ensures))))
 
--- src/search.rt:84:19
 enum-known-place : tie.Need-enum-known-place
 enum-known-place c = search needs
 
--- src/search.rt:84:58
 next-try-requires : tie.Need-next-try-requires
-next-try-requires c κs = let w = c .before .before .before .before .pre in at-small (w .0) (w .1 .0) _ _ _ _ (w .1 .1 .0) (w .1 .1 .1) _ _ (c .before .place .given .1) (w .1 .1 .2) (omega arith)
+next-try-requires c κs = let w = c .before .before .before .before .pre in at-small (w .0) (w .1 .0) _ _ _ _ (w .1 .1 .0) (w .1 .1 .1 .ordered) _ _ (c .before .place .given .1) (w .1 .1 .2) (omega arith)
 
--- src/search.rt:84:25
 walk-from-requires-2 : tie.Need-walk-from-requires-2
-walk-from-requires-2 c κs = let w = c .before .before .before .before .before .pre in let d = w .1 .1 .1 in (w .0, (w .1 .0, (w .1 .1 .0, d, at-startable (w .0) (w .1 .0) _ _ _ _ (w .1 .1 .0) d _ _ (c .before .before .place .given .1) (w .1 .1 .2) _ (c .next-try .ensures (w .1 .1 .0) (d .number)))))
+walk-from-requires-2 c κs = let w = c .before .before .before .before .before .pre in let d = w .1 .1 .1 in (w .0, (w .1 .0, (w .1 .1 .0, d, at-startable (w .0) (w .1 .0) _ _ _ _ (w .1 .1 .0) (d .ordered) _ _ (c .before .before .place .given .1) (w .1 .1 .2) _ (c .next-try .ensures (w .1 .1 .0) (d .ordered .number)))))
 
--- src/search.rt:85:25
 enum-told-2 : tie.Need-enum-told-2
 enum-told-2 c = search needs
 
--- src/search.rt:78:1
 returns : tie.Need-returns
-returns c = λ s g o d h. c .walk-from .ensures s g o d ∙ fresh-found s g _ _ _ _ o d _ _ (c .before .before .enum-told .given .1) (c .before .first .ensures)
+returns c = λ s g o d h. c .walk-from .ensures s g o d ∙ fresh-found s g _ _ _ _ o (d .ordered) _ _ (c .before .before .enum-told .given .1) (c .before .first .ensures)
 
--- src/search.rt:78:1
 returns-2 : tie.Need-returns-2
-returns-2 c = λ s g o d h. c .walk-from2 .ensures s g o d ∙ at-found s g _ _ _ _ o d _ _ (c .before .before .before .place .given .1) h _ (c .before .next-try .ensures o (d .number))
+returns-2 c = λ s g o d h. c .walk-from2 .ensures s g o d ∙ at-found s g _ _ _ _ o (d .ordered) _ _ (c .before .before .before .place .given .1) h _ (c .before .next-try .ensures o (d .ordered .number))
 
--- src/search.rt:78:1
 returns-3 : tie.Need-returns-3
-returns-3 c = λ s g o d h. ended-found s g _ _ _ _ o d _ (c .enum-told2 .given .1)
+returns-3 c = λ s g o d h. ended-found s g _ _ _ _ o (d .ordered) _ (c .enum-told2 .given .1)
 
 pub search-spec : {M : Type 1} → statement M
 search-spec =

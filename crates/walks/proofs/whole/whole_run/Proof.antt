@@ -1,5 +1,5 @@
--- `whole_run`: a refused setup ends it; else what it left is prepared and run. Assumes nothing.
-use mathlib.Core.Path.{_≡_, refl, ap}
+-- `whole_run`: a refused setup ends it; else what it left is run. Assumes nothing.
+use mathlib.Core.Path.{_≡_, ap}
 use mathlib.Core.List.{List}
 use native.Mathlib.Omega.{arith}
 use denote.Ref.{now}
@@ -8,14 +8,11 @@ use lib.IntN.{pos}
 use mir.Syntax.{w32}
 use mir.ValLaws.{toZ-ofZ}
 use Rattle.words.specs.Laws.{Bytes}
-use Rattle.packets.specs.Table.{sheetAt}
 use Rattle.packets.specs.Calls.{runVerdict}
 use Rattle.packets.specs.Meaning.{Sound}
 use Rattle.packets.specs.declared.state.State.{State}
-use Rattle.walks.specs.FromSound.{sound-components}
-use Rattle.walks.specs.Stepping.{cleared}
 use Rattle.walks.specs.Running.{Total}
-use Rattle.walks.specs.RunAll.{Arranged, arranged, count-few}
+use Rattle.walks.specs.RunAll.{count-few}
 use Rattle.walks.specs.Whole.{SetUpLeft, run-refused, run-passed, done-sound, run-left}
 use borrow.Author.Needs.{needs}
 use Rattle.walks.proofs.whole.whole_run.Statement.{statement}
@@ -61,11 +58,6 @@ module _ (c : tie.Else1) where
   sound : Sound (st (c .before)) (table-left (c .before)) (marks-left (c .before))
   sound = done-sound _ _ _ _ (set-up (c .before)) (bytes (c .before)) passed
 
--- and the numbers prepared
-module _ (c : tie.After-list-all-arg2) where
-  prepared : Arranged (st (c .before .before .before .before .before .before .before .before .before .before .before .before .before .before)) (table-left (c .before .before .before .before .before .before .before .before .before .before .before .before .before .before)) (c .before .before .before .prepare .last .0) (marks-left (c .before .before .before .before .before .before .before .before .before .before .before .before .before .before))
-  prepared = arranged _ _ _ _ _ (sound (c .before .before .before .before .before .before .before .before .before .before .before .before .before)) (c .before .before .before .prepare .ensures) (cleared 4224)
-
 setup-with-room-requires : tie.Need-setup-with-room-requires
 setup-with-room-requires c κs = search needs
 
@@ -81,16 +73,13 @@ same-length-2 c = search needs
 returns : tie.Need-returns
 returns c = let e = toZ-ofZ w32 (c .before .number .result) (search needs) in rw e (run-refused _ _ _ _ (set-up (c .before)) (c .if1 .taken))
 
-prepare-requires : tie.Need-prepare-requires
-prepare-requires c κs = (refl, (sheetAt _ _, sound-components _ _ _ (sound (c .before .before .before .before .before .before .before .before .before))))
-
 list-all-requires : tie.Need-list-all-requires
-list-all-requires c κs = (table-left (c .before .before .before .before .before .before .before .before .before .before .before .before .before .before), prepared c)
+list-all-requires c κs = sound (c .before .before .before .before)
 
 cast-result : tie.Need-cast-result
 cast-result c =
-    let few = count-few _ _ _ _ (prepared (c .before .before .before .before .before)) (output (c .before .before .before .before .before .before .before .before .before .before .before .before .before .before .before .before .before .before .before)) (st (c .before .before .before .before .before .before .before .before .before .before .before .before .before .before .before .before .before .before .before) .progressions) in
-    let e = ap (λ (t : Total). t .count) (c .before .before .before .before .list-all .ensures _ (prepared (c .before .before .before .before .before))) in
+    let few = count-few _ _ _ (sound (c .before .before .before .before .before .before .before .before .before)) (output (c .before .before .before .before .before .before .before .before .before .before)) in
+    let e = ap (λ (t : Total). t .count) (c .before .before .before .before .list-all .ensures) in
     record { sfits = omega (arith, few, e) }
 
 same-length-3 : tie.Need-same-length-3
@@ -105,7 +94,7 @@ same-length-5 c = search needs
 returns-2 : tie.Need-returns-2
 returns-2 c =
     let e = toZ-ofZ w32 (pos (c .before .before .before .before .list-all .result)) (cast-result c) in
-    rw e (run-left _ _ _ _ (set-up (c .before .before .before .before .before .before .before .before .before .before .before .before .before .before .before .before .before .before .before)) (bytes (c .before .before .before .before .before .before .before .before .before .before .before .before .before .before .before .before .before .before .before)) (passed (c .before .before .before .before .before .before .before .before .before .before .before .before .before .before .before .before .before .before)) (prepared (c .before .before .before .before .before)) (c .before .before .before .before .list-all .ensures))
+    rw e (run-left _ _ _ _ (set-up (c .before .before .before .before .before .before .before .before .before .before)) (bytes (c .before .before .before .before .before .before .before .before .before .before)) (passed (c .before .before .before .before .before .before .before .before .before)) (c .before .before .before .before .list-all .ensures))
 
 pub whole-run-spec : {M : Type 1} → statement M
 whole-run-spec =
@@ -116,7 +105,6 @@ whole-run-spec =
     same-length
     same-length-2
     returns
-    prepare-requires
     list-all-requires
     cast-result
     same-length-3
