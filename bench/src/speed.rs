@@ -28,6 +28,8 @@ pub fn usual(prg: i32, exponent: u32) -> Sheet {
 
 /// One thing of the usual sheet changed: what that costs.
 pub fn grown() -> Vec<(&'static str, Sheet)> {
+    let beyond = Range { prg: 3, resno0: 0, compno0: 0, layno1: 3, resno1: 33, compno1: 3 };
+    let beyond = Sheet { progressions: Progressions::Ranges(vec![beyond]), ..usual(3, 6) };
     let usual = usual(2, 6);
     let mut resolutions = usual.clone();
     for component in &mut resolutions.components {
@@ -40,6 +42,7 @@ pub fn grown() -> Vec<(&'static str, Sheet)> {
         ("packets doubled (width 2048)", Sheet { tx1: 2048, ..usual.clone() }),
         ("components doubled", Sheet { components, ..usual.clone() }),
         ("resolutions doubled", resolutions),
+        ("PCRL, a range of 33 resolutions", beyond),
         ("setup only (no packets)", Sheet { progressions: Progressions::Ranges(vec![none]), ..usual }),
     ]
 }

@@ -22,6 +22,7 @@ pub mod NestResume
 pub mod NestStride
 pub mod NestClip
 pub mod NestSkip
+pub mod NestCut
 pub mod Below
 pub mod Least
 pub mod Extremes

@@ -5,16 +5,16 @@ use mathlib.Core.List.{List, [], _∷_, _++_, map}
 use mathlib.Core.Logic.{⊎-elim}
 use Prim.Native.Nat.{ℕ, zero, suc, _+_, _-_, _≤_, _<_}
 use native.Mathlib.Nat.{one-mul}
-use native.Mathlib.Numerals.{add-one}
 use native.Mathlib.Omega.{arith}
 use lib.ListN.{length, getD, replicate, length-replicate, getD-replicate, List·getD-append, List·getD-eq-default}
 use lib.Seq.{getD-append-add}
 use Rattle.laws.specs.Cases.{le-or-lt}
 use Rattle.laws.specs.Gather.{gather}
-use Rattle.laws.specs.Axis.{span}
+use Rattle.laws.specs.Axis.{span, up, up-grows}
 use Rattle.laws.specs.Below.{allBelow, maxBelow, minBelow, sumBelow}
-use Rattle.laws.specs.Spans.{span-end}
-use Rattle.laws.specs.Indexing.{gather-at, gather-last, gather-length, sum-constant}
+use Rattle.laws.specs.Axes.{axis-bounds}
+use Rattle.laws.specs.Members.{gather-same}
+use Rattle.laws.specs.Indexing.{gather-at, gather-length, sum-constant}
 
 -- a test that every number below n passes
 pub all-true : (f : ℕ → Bool) (n : ℕ) → ((i : ℕ) → i < n → f i ≡ true) → allBelow f n ≡ true
@@ -38,12 +38,8 @@ unfolding minBelow
 min-same a f g zero h = refl
 min-same a f g (suc n) h = rw (min-same a f g n (λ i l. h i (omega arith)), h n (omega arith))
 
-pub gather-same : {B : Type 0} (f g : ℕ → List B) (n : ℕ) → ((i : ℕ) → i < n → f i ≡ g i) → gather f (span 0 n) ≡ gather g (span 0 n)
-unfolding gather
-gather-same f g zero h = rw (span-end 0 0 (omega arith)) refl
-gather-same f g (suc n) h =
-    let before : gather f (span 0 n) ≡ gather g (span 0 n) = gather-same f g n (λ i l. h i (omega arith)) in
-    rw (← (add-one n), gather-last f n, gather-last g n, before, h n (omega arith)) refl
+pub span-same : {B : Type 0} (f g : ℕ → List B) (n : ℕ) → ((i : ℕ) → i < n → f i ≡ g i) → gather f (span 0 n) ≡ gather g (span 0 n)
+span-same f g n h = gather-same f g (span 0 n) (λ i m. h i (axis-bounds up up-grows n 0 n i (omega arith) m .1))
 
 -- f 0, f 1, .. f (n - 1)
 map-single : {A B : Type 0} (f : A → B) (xs : List A) → map f xs ≡ gather (λ x. f x ∷ []) xs

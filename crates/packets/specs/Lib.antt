@@ -25,6 +25,7 @@ pub mod AgreedStride
 pub mod InPlay
 pub mod Met
 pub mod Inside
+pub mod Ended
 pub mod Once
 pub mod WholeTile
 pub mod Resume

@@ -11,7 +11,7 @@ use lib.Dec.{leb, eqb}
 use borrow.Author.Tests.{leb-true, le-leb}
 use Rattle.laws.specs.Cases.{and-true}
 use Rattle.laws.specs.Below.{sumBelow}
-use Rattle.laws.specs.Pointwise.{all-true, gather-same}
+use Rattle.laws.specs.Pointwise.{all-true, span-same}
 use Rattle.words.specs.Words.{wordAt, over}
 use Rattle.geometry.specs.Line.{count}
 use Rattle.geometry.specs.Precinct.{pick}
@@ -137,7 +137,7 @@ module _ (b : List ℕ) where
 
     same-words : tableWords there ≡ tableWords (sheetIn b)
     unfolding fieldsOf
-    same-words = gather-same _ _ (wd b 0 6) (λ c h. gather-same (entry there c) (entry (sheetIn b) c) (resOf (fieldsOf b) c) (λ r l. same-entry c r h l))
+    same-words = span-same _ _ (wd b 0 6) (λ c h. span-same (entry there c) (entry (sheetIn b) c) (resOf (fieldsOf b) c) (λ r l. same-entry c r h l))
 
     pub records-kept : (old : List ℕ) → 2112 ≤ length old → keptOf b Records false (fieldsOf b) old ≡ over (tableWords (sheetIn b)) old
     unfolding keptOf

@@ -22,7 +22,7 @@ use Rattle.sheets.specs.Ranges.{orderNumber}
 use Rattle.walks.specs.FromSound.{AllFilled}
 use Rattle.walks.specs.Walk.{Counted, Ready}
 use Rattle.walks.specs.Search.{leftFrom, firstOf, orderBy, known-by, points-by, Ordered, from-first}
-use Rattle.walks.specs.Plan.{orderIn, Planned, planned-ordered, planned-searched, planned-none}
+use Rattle.walks.specs.Plan.{goesOver, orderIn, Planned, over-all, planned-ordered, planned-searched, planned-none}
 use Rattle.walks.specs.Running.{Total, totalOf, total-none}
 use Rattle.walks.specs.declared.plan.Plan.{Plan}
 
@@ -62,7 +62,7 @@ module _ (st : State) (table : List ℕ) (k : ℕ) (counts : List ℕ) (plan : P
   sheet = sheetAt st table
 
   abbrev pub range : Range
-  range = rangeOf st (changeOf st k)
+  range = goesOver st (changeOf st k)
 
   -- where the plan has no order there is nothing to list
   pub none-listed : 5 ≤ plan .order → (output : List ℕ) (n : ℕ)
@@ -92,6 +92,7 @@ module _ (st : State) (table : List ℕ) (k : ℕ) (counts : List ℕ) (plan : P
     whole-of =
         ap (λ (o : Order). leftFrom sheet range o (firstOf (plan .walk))) (sym (known-by o _ m (ordered .number) e))
         ∙ from-first sheet range counts (plan .walk) marks (plan .order) o ordered
+        ∙ over-all st table k counts plan marks d
 
     pub few-of : (n : ℕ) → n + length (unlisted (indexOf st) marks (positionsFor st table k)) ≤ 65536
         → n + length (unlisted (indexOf st) marks (leftFrom sheet range (orderBy m) (firstOf (plan .walk)))) ≤ 65536

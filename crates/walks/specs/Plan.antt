@@ -1,8 +1,7 @@
 -- The plan of a progression, made once: its order and its walk; and that a search by it finds what is behind a place. Assumes nothing.
-use mathlib.Core.Path.{_≡_, refl, sym, ap, _∙_}
-use mathlib.Core.Bool.{Bool, true, false, true≢false}
+use mathlib.Core.Path.{_≡_, refl, sym, ap, _∙_, subst}
+use mathlib.Core.Bool.{true, false, true≢false}
 use mathlib.Core.List.{List, [], _∷_, List·Memᴰ as In, List·Memᴰ·head as here}
-use mathlib.Core.Logic.{⊎-elim}
 use native.Mathlib.Omega.{arith}
 use Prim.Native.Nat.{ℕ, _≤_, _<_}
 use lib.Dec.{eqb, ltb}
@@ -10,13 +9,14 @@ use Rattle.laws.specs.Cases.{split, and-true}
 use Rattle.laws.specs.Means.{eqb-means, leb-means}
 use Rattle.geometry.specs.Precinct.{pick}
 use Rattle.packets.specs.Tile.{Sheet, indexOf, resOf, maxRes, strideC, strideR, strideL}
-use Rattle.packets.specs.Orders.{Order, lrcp, rlcp, rpcl, pcrl, cprl, other, Range, pickRange, wholeTile, volume, rangeOf, orderOf, componentsGood}
-use Rattle.packets.specs.Positions.{hasPositions}
+use Rattle.packets.specs.Orders.{Order, lrcp, rlcp, rpcl, pcrl, cprl, other, Range, rangeOf, orderOf, componentsGood}
+use Rattle.packets.specs.Positions.{hasPositions, positionsIn}
 use Rattle.packets.specs.Table.{sheetAt}
 use Rattle.packets.specs.Grid.{changeOf}
 use Rattle.packets.specs.Sound.{positionsFor}
 use Rattle.packets.specs.Meaning.{Sound, Admitted, StepsFit, AgreedFor, sound-good, sound-means}
 use Rattle.packets.specs.Good.{Good}
+use Rattle.packets.specs.Ended.{endedAt, positions-ended}
 use Rattle.packets.specs.Inside.{byPoints, has-good, good-has, positions-none, inside}
 use Rattle.packets.specs.Once.{below-most}
 use Rattle.packets.specs.Run.{layers-within}
@@ -25,12 +25,12 @@ use Rattle.packets.specs.declared.state.Progression.{Progression}
 use Rattle.packets.specs.declared.cursor.Place.{Place}
 use Rattle.packets.specs.declared.cursor.Place.the-variants as place
 use Rattle.packets.specs.Calls.{after}
-use Rattle.laws.specs.Runs.{Ended, seek}
+use Rattle.laws.specs.Runs.{Answer, Ended, seek}
 use Rattle.laws.specs.Lists.{behind}
 use Rattle.packets.specs.declared.cursor.Position.{Position}
 use Rattle.sheets.specs.Ranges.{orderNumber, rangeIn, rangeFor, range-for}
 use Rattle.sheets.specs.declared.ranges.Range as ranges
-use Rattle.laws.specs.Below.{max-least}
+use Rattle.laws.specs.Below.{max-at, max-least}
 use Rattle.walks.specs.FromSound.{AllFilled, sound-play}
 use Rattle.walks.specs.Walk.{Ranged}
 use Rattle.walks.specs.Counting.{AllCounted}
@@ -56,6 +56,10 @@ walkFor st g =
       «stride_c» = strideC st;
     }
 
+-- a progression's range, up to the largest number of resolutions: its positions are the same (packets, Ended)
+abbrev pub goesOver : State → Progression → Range
+goesOver st q = endedAt (st .«max_res») (rangeOf st q)
+
 -- the order's number; 5 also where there are no precincts or the components are not good
 unfoldable pub orderIn : State → Progression → ℕ
 orderIn st q = pick (eqb (st .«max_prec») 0) 5 (pick (componentsGood st (rangeOf st q)) (orderNumber (orderOf (q .prg))) 5)
@@ -70,7 +74,7 @@ pub record Planned (st : State) (table : List ℕ) (k : ℕ) (counts : List ℕ)
   pub counted : AllCounted st table counts
   pub known : k < st .progressions
   pub order : plan .order ≡ orderIn st (changeOf st k)
-  pub walk : plan .walk ≡ walkFor st (rangeOf st (changeOf st k))
+  pub walk : plan .walk ≡ walkFor st (goesOver st (changeOf st k))
 
 abbrev pub SomePlan : List ℕ → List ℕ → Plan → List ℕ → Place → Type 0
 SomePlan counts prep plan marks q =
@@ -84,7 +88,7 @@ module _ (st : State) (table : List ℕ) (k : ℕ) (counts : List ℕ) (plan : P
   q = changeOf st k
 
   abbrev g : Range
-  g = rangeOf st q
+  g = goesOver st q
 
   abbrev o : Order
   o = orderOf (q .prg)
@@ -93,14 +97,21 @@ module _ (st : State) (table : List ℕ) (k : ℕ) (counts : List ℕ) (plan : P
   good = sound-good st table marks (sound-means st table marks .1 (d .sound))
 
   -- resolutions go up to 33
-  deep : (t : Bool) → (eqb (q .kind) 5 ≡ t) → pickRange t (wholeTile st) (volume st q) .resno1 ≤ 33
-  unfolding maxRes
-  deep true e = omega (arith, d .sound .deepest, max-least (resOf st) (st .components) 33 (λ c h. d .sound .component c h .resolutions .1))
-  deep false e = ⊎-elim (λ v. v .resno1) (λ v. omega (arith, v .blank .resno1)) (d .sound .progression k (d .known))
-
   range-deep : g .resno1 ≤ 33
-  unfolding rangeOf
-  range-deep = deep _ refl
+  unfolding maxRes
+  range-deep = omega (arith, d .sound .deepest, max-least (resOf st) (st .components) 33 (λ c h. d .sound .component c h .resolutions .1))
+
+  -- what the walk goes over are the progression's positions
+  pub over-all : positionsIn s g o ≡ positionsFor st table k
+  unfolding maxRes
+  over-all = positions-ended s (rangeOf st q) (st .«max_res») good (λ c h. omega (arith, d .sound .deepest, max-at (resOf st) (st .components) c h)) o
+
+  pub stands-over : (w : Place) → Admitted w (positionsFor st table k) → Admitted w (positionsIn s g o)
+  stands-over w = subst (Admitted w) (sym over-all)
+
+  pub found-over : (w : Place) (a : Answer Position) → (Admitted w (positionsIn s g o) → a ≡ seek (indexOf st) marks (after w (positionsIn s g o)))
+      → Admitted w (positionsFor st table k) → a ≡ seek (indexOf st) marks (after w (positionsFor st table k))
+  found-over w a = subst (λ (ps : List Position). Admitted w ps → a ≡ seek (indexOf st) marks (after w ps)) over-all
 
   fit : (o : Order) → byPoints o ≡ true → AgreedFor s o → StepsFit s
   fit lrcp b a = absurd (true≢false (sym b))
@@ -179,29 +190,31 @@ module _ (st : State) (table : List ℕ) (k : ℕ) (counts : List ℕ) (plan : P
         }
 
   -- a plan without one has no positions
-  without : componentsGood st g ≡ false → positionsFor st table k ≡ []
-  without f = positions-none s g o (split (hasPositions s g o) (λ t. absurd (true≢false (sym (has-good s g o t) ∙ f))) (λ t. t))
+  without : componentsGood st (rangeOf st q) ≡ false → positionsFor st table k ≡ []
+  without f =
+      positions-none s (rangeOf st q) o
+      (split (hasPositions s (rangeOf st q) o) (λ t. absurd (true≢false (sym (has-good s (rangeOf st q) o t) ∙ f))) (λ t. t))
 
   unknown : orderNumber o ≡ 5 → positionsFor st table k ≡ []
-  unknown e = positions-none s g o (ap (hasPositions s g) (known-by o 5 5 e refl))
+  unknown e = positions-none s (rangeOf st q) o (ap (hasPositions s (rangeOf st q)) (known-by o 5 5 e refl))
 
   empty : st .«max_prec» ≡ 0 → positionsFor st table k ≡ []
-  empty e = none-in _ (λ p i. omega (arith, below-most s good p (inside s g good o p i)))
+  empty e = none-in _ (λ p i. omega (arith, below-most s good p (inside s (rangeOf st q) good o p i)))
 
   pub planned-none : plan .order ≡ 5 → positionsFor st table k ≡ []
   unfolding orderIn
   planned-none e =
       split (eqb (st .«max_prec») 0)
       (λ z. empty (eqb-means _ 0 .0 z))
-      (λ z. split (componentsGood st g) (λ t. unknown (sym (sym e ∙ d .order ∙ rw (z, t)))) (λ t. without t))
+      (λ z. split (componentsGood st (rangeOf st q)) (λ t. unknown (sym (sym e ∙ d .order ∙ rw (z, t)))) (λ t. without t))
 
 -- what makes a plan, from the code's range of the progression
 module _ (st : State) (q : Progression) (h : ranges.Range) (e : rangeIn h ≡ rangeFor (st .layers) (st .components) (st .«max_res») q) where
   is-range : rangeIn h ≡ rangeOf st q
   is-range = e ∙ range-for st q
 
-  pub plan-walk : (w : Walk) → w ≡ walkFor st (rangeIn h) → w ≡ walkFor st (rangeOf st q)
-  plan-walk w f = f ∙ ap (walkFor st) is-range
+  pub plan-walk : (w : Walk) → w ≡ walkFor st (endedAt (st .«max_res») (rangeIn h)) → w ≡ walkFor st (goesOver st q)
+  plan-walk w f = f ∙ ap (λ (g : Range). walkFor st (endedAt (st .«max_res») g)) is-range
 
   pub plan-empty : st .«max_prec» ≡ 0 → 5 ≡ orderIn st q
   unfolding orderIn

@@ -13,7 +13,6 @@ use Rattle.laws.specs.AllRuns.{joined, unlisted-dedupe}
 use Rattle.laws.specs.Zeros.{zeros-most, unlisted-few}
 use Rattle.words.specs.Words.{wordsBytes, over}
 use Rattle.packets.specs.Tile.{indexOf, strideR, strideL, needed}
-use Rattle.packets.specs.Orders.{rangeOf}
 use Rattle.packets.specs.Grid.{changeOf}
 use Rattle.packets.specs.Sound.{positionsFor}
 use Rattle.packets.specs.Calls.{listed, recordsOf}
@@ -23,7 +22,7 @@ use Rattle.packets.specs.declared.state.State.{State}
 use Rattle.packets.specs.declared.cursor.Position.{Position}
 use Rattle.walks.specs.Counting.{AllCounted}
 use Rattle.walks.specs.Records.{putPackets, over-packets}
-use Rattle.walks.specs.Plan.{walkFor, orderIn, Planned}
+use Rattle.walks.specs.Plan.{walkFor, goesOver, orderIn, Planned}
 use Rattle.walks.specs.Stepping.{strides-small}
 use Rattle.walks.specs.Running.{Total, totalOf, SomeRun, total-none, total-append, mark-needed}
 use Rattle.walks.specs.declared.plan.Plan.{Plan}
@@ -123,7 +122,7 @@ module _ {st : State} {table marks₀ output₀ : List ℕ} {n₀ k₀ : ℕ} wh
           }
 
       module _ {counts : List ℕ} (d : RestIn st table counts marks₀ n₀ k₀) {plan : Plan}
-          (made : (plan .order ≡ orderIn st (changeOf st k)) × (plan .walk ≡ walkFor st (rangeOf st (changeOf st k)))) where
+          (made : (plan .order ≡ orderIn st (changeOf st k)) × (plan .walk ≡ walkFor st (goesOver st (changeOf st k)))) where
         pub plans : Planned st table k counts plan marks
         plans = let a = rest-in d in record { sound = a .sound; counted = a .counted; known = less; order = made .0; walk = made .1 }
 

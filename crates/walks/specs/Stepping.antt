@@ -8,7 +8,6 @@ use lib.ListN.{getD, replicate}
 use Rattle.laws.specs.Below.{max-at}
 use Rattle.laws.specs.Runs.{Answer, Packet, Ended, seek, found-in}
 use Rattle.packets.specs.Tile.{resOf, maxRes, strideR, strideL, needed, indexOf}
-use Rattle.packets.specs.Orders.{rangeOf}
 use Rattle.packets.specs.Grid.{changeOf}
 use Rattle.packets.specs.Sound.{sound, positionsFor}
 use Rattle.packets.specs.Calls.{after, stepBy, stepOf}
@@ -23,7 +22,7 @@ use Rattle.walks.specs.Counting.{AllWritten, sound-counts}
 use Rattle.walks.specs.Walk.{answerOf, indexBy}
 use Rattle.walks.specs.Marks.{markBy}
 use Rattle.walks.specs.Running.{mark-needed}
-use Rattle.walks.specs.Plan.{walkFor, orderIn, Planned}
+use Rattle.walks.specs.Plan.{walkFor, goesOver, orderIn, Planned}
 use Rattle.walks.specs.declared.walk.Found.{Found}
 use Rattle.walks.specs.declared.walk.Found.the-variants as found
 use Rattle.walks.specs.declared.plan.Plan.{Plan}
@@ -55,7 +54,7 @@ module _ (st : State) (table marks : List ℕ) (d : Sound st table marks) where
 
   -- counted and planned
   pub planned : (k : ℕ) (old counts : List ℕ) (plan : Plan) → k < st .progressions → AllWritten table (st .resolutions) old counts (st .components)
-      → ((i : ℕ) → getD old i 0 ≡ 0) → plan .order ≡ orderIn st (changeOf st k) → plan .walk ≡ walkFor st (rangeOf st (changeOf st k))
+      → ((i : ℕ) → getD old i 0 ≡ 0) → plan .order ≡ orderIn st (changeOf st k) → plan .walk ≡ walkFor st (goesOver st (changeOf st k))
       → Planned st table k counts plan marks
   planned k old counts plan h done clear o w =
       record { sound = d; counted = sound-counts st table marks old counts d done clear; known = h; order = o; walk = w }

@@ -2,6 +2,7 @@
 use crate::search::search;
 use crate::walk::Found;
 use crate::walk::Walk;
+use geometry::math;
 use packets::cursor::Place;
 use packets::state::Progression;
 use packets::state::State;
@@ -12,7 +13,7 @@ ghost use Prim.Native.Nat.{ℕ, _<_, _≤_};
 ghost use mathlib.Core.List.{List};
 ghost use Rattle.laws.specs.Runs.{seek};
 ghost use Rattle.packets.specs.Tile.{indexOf, strideR, strideL};
-ghost use Rattle.packets.specs.Orders.{rangeOf};
+ghost use Rattle.packets.specs.Ended.{endedAt};
 ghost use Rattle.packets.specs.Grid.{changeOf};
 ghost use Rattle.packets.specs.Sound.{positionsFor};
 ghost use Rattle.packets.specs.Calls.{after};
@@ -20,7 +21,7 @@ ghost use Rattle.packets.specs.Meaning.{Admitted};
 ghost use Rattle.sheets.specs.Ranges.{rangeIn};
 ghost use Rattle.walks.specs.FromSound.{AllFilled};
 ghost use Rattle.walks.specs.Walk.{answerOf};
-ghost use Rattle.walks.specs.Plan.{walkFor, orderIn, Planned, SomePlan};
+ghost use Rattle.walks.specs.Plan.{walkFor, goesOver, orderIn, Planned, SomePlan};
 
 pub(crate) struct Plan {
     // 0 to 4; 5 where there are no positions
@@ -28,9 +29,10 @@ pub(crate) struct Plan {
     pub walk: Walk,
 }
 
+// The walk over a range, which ends at the largest number of resolutions: no component has one beyond.
 fn walk_of(st: State, g: Range) -> Walk
     requires { ⌜ (strideR st ≤ 65536) × (strideL st ≤ 65536) ⌝ }
-    ensures { λ r. ⌜ r ≡ walkFor st (rangeIn g) ⌝ }
+    ensures { λ r. ⌜ r ≡ walkFor st (endedAt (st .«max_res») (rangeIn g)) ⌝ }
 {
     let stride_c = st.max_prec;
     let stride_r = st.components * stride_c;
@@ -38,7 +40,7 @@ fn walk_of(st: State, g: Range) -> Walk
     Walk {
         layno1: g.layno1,
         resno0: g.resno0,
-        resno1: g.resno1,
+        resno1: math::uint_min(g.resno1, st.max_res),
         compno0: g.compno0,
         compno1: g.compno1,
         tx0: st.tx0,
@@ -54,7 +56,7 @@ fn walk_of(st: State, g: Range) -> Walk
 // The plan of a progression.
 fn plan_for(st: State, q: Progression) -> Plan
     requires { ⌜ (strideR st ≤ 65536) × (strideL st ≤ 65536) ⌝ }
-    ensures { λ r. ⌜ (r .order ≡ orderIn st q) × (r .walk ≡ walkFor st (rangeOf st q)) ⌝ }
+    ensures { λ r. ⌜ (r .order ≡ orderIn st q) × (r .walk ≡ walkFor st (goesOver st q)) ⌝ }
 {
     let g = ranges::range_of(q, st.layers, st.components, st.max_res);
     let walk = walk_of(st, g);
@@ -73,7 +75,7 @@ fn plan_for(st: State, q: Progression) -> Plan
 // The plan of progression k of a state.
 pub(crate) fn plan_of(st: State, k: u32) -> Plan
     requires { ⌜ (k < 32) × (strideR st ≤ 65536) × (strideL st ≤ 65536) ⌝ }
-    ensures { λ r. ⌜ (r .order ≡ orderIn st (changeOf st k)) × (r .walk ≡ walkFor st (rangeOf st (changeOf st k))) ⌝ }
+    ensures { λ r. ⌜ (r .order ≡ orderIn st (changeOf st k)) × (r .walk ≡ walkFor st (goesOver st (changeOf st k))) ⌝ }
 {
     let changes = st.changes;
     plan_for(st, changes[k as usize])
