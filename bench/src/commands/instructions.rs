@@ -9,6 +9,11 @@ use crate::speed::{self, EXPONENTS, ORDERS};
 const FEW: u64 = 1;
 const MANY: u64 = 5;
 
+/// Callgrind counts each byte of a `rep stosb` or `rep movsb` as an instruction: so that an array which is cleared counts for
+/// what it is, the C library is told to do without.
+const NO_REPEATS: &str =
+    "glibc.cpu.x86_rep_stosb_threshold=1073741824:glibc.cpu.x86_rep_movsb_threshold=1073741824";
+
 pub fn run(arguments: &mut Arguments) -> Result<(), String> {
     arguments.finish()?;
     println!("| Order | Precincts | Packets | Rust, instructions a packet | ours | ratio |");
@@ -41,6 +46,7 @@ fn count(who: &str, prg: usize, exponent: u32) -> Result<f64, String> {
 fn collected(who: &str, prg: usize, exponent: u32, runs: u64) -> Result<u64, String> {
     let told = |error: std::io::Error| format!("cannot run valgrind: {error}");
     let output = Command::new("valgrind")
+        .env("GLIBC_TUNABLES", NO_REPEATS)
         .args(["--tool=callgrind", "--callgrind-out-file=/dev/null"])
         .arg(std::env::current_exe().map_err(told)?)
         .args(["once", who, &prg.to_string(), &exponent.to_string(), &runs.to_string()])

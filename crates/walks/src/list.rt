@@ -17,7 +17,7 @@ ghost use Rattle.walks.specs.AtPoint.{leftK, leftL};
 ghost use Rattle.walks.specs.Listing.{listedOne, Listing};
 ghost use Rattle.walks.specs.Layers.{Layered, SomeLayers, Celled, SomeCell};
 
-// The record of a packet, as record n of the output; where there is no room for all of it, nothing. (One test of the length, and none for each word.)
+// The record of a packet, as record n of the output; where there is no room for all of it, nothing.
 fn put_packet(output: &mut [u8], n: u32, p: Position)
     requires { ⌜ n ≤ 65536 ⌝ }
     ensures { λ _. ⌜ now (output .exit) ≡ putPacket (now (output .entry)) (16 * n) p ⌝ }
