@@ -1,6 +1,6 @@
-/* bonxigarth.h: the packets of a JPEG 2000 tile in the order of its progressions, and the bounds of a tile.
+/* bonxigarth.h: the packets of a JPEG 2000 tile in the order of its progressions, what a tile needs, and the bounds of a tile.
  *
- * The library behind this header is proved to do what stands here. For both functions:
+ * The library behind this header is proved to do what stands here. For all functions:
  *
  * - Every call ends. It allocates nothing and keeps nothing between calls, so threads may call at the same time, each with buffers of its own.
  *   (Measured and not proved: a call takes less than 24 kB of stack.)
@@ -19,7 +19,7 @@ extern "C" {
 #endif
 
 /* Why a call is refused. -1 is tested first; then the records are read in order, and the first bad one is -2 or -3; then come -4 to -8, in this order.
- * Tile bounds tests -10 before -8. */
+ * Setup tests -8 before all else, tile bounds -10 before -8. */
 enum {
     BONXIGARTH_BAD_LENGTH = -1,    /* the sheet is empty, not a multiple of 32 bytes, or over 577 records */
     BONXIGARTH_BAD_SHAPE = -2,     /* a kind is wrong at its place, an unnamed word is not 0, records are missing or left over */
@@ -28,7 +28,7 @@ enum {
     BONXIGARTH_TOO_MANY = -5,      /* the tile needs more than 65,536 marks */
     BONXIGARTH_SHORT_MARKS = -6,   /* marks has fewer bytes than the tile needs */
     BONXIGARTH_SHORT_TABLE = -7,   /* table has fewer than 16 bytes for each resolution */
-    BONXIGARTH_SHORT_OUTPUT = -8,  /* output has fewer than 16 bytes for each mark needed; tile bounds: fewer than 16 */
+    BONXIGARTH_SHORT_OUTPUT = -8,  /* output has fewer than 16 bytes for each mark needed; setup, tile bounds: fewer than 16 */
     BONXIGARTH_NO_SUCH_TILE = -10  /* the tile number is not below tw times th, modulo 2^32 */
 };
 
@@ -40,6 +40,7 @@ enum {
     BONXIGARTH_MOST_TABLE = 8448,       /* 16 bytes for each of 33 resolutions of 16 components: the largest table */
     BONXIGARTH_PACKET_BYTES = 16,       /* of a packet in the output: four words */
     BONXIGARTH_MOST_OUTPUT = 1048576,   /* 16 bytes for each of 65,536 marks: the largest output */
+    BONXIGARTH_REPORTS_BYTES = 16,      /* of what setup reports: four words */
     BONXIGARTH_BOUNDS_BYTES = 16        /* of a tile's bounds: four words */
 };
 
@@ -64,6 +65,19 @@ int32_t bonxigarth_whole_run(const uint8_t *sheet, size_t sheet_len,
                              uint8_t *table, size_t table_len,
                              uint8_t *marks, size_t marks_len,
                              uint8_t *output, size_t output_len);
+
+/* Sets a sheet up and lists nothing: what a whole run begins with, which needs no call of this before it.
+ *
+ * sheet, table and marks are those of the whole run; the marks that the tile needs are all 0 then.
+ * reports  four words: the largest number of precincts of a resolution, the largest number of resolutions of a component, and the smallest
+ *          steps dx * 2^(pdx + level) and dy * 2^(pdy + level), of those that fit 32 bits, or 0x7fffffff if none is smaller.
+ *          Bytes beyond the first 16 stay as they are
+ *
+ * Answers 0; or -8; or -1 to -7. */
+int32_t bonxigarth_setup(const uint8_t *sheet, size_t sheet_len,
+                         uint8_t *table, size_t table_len,
+                         uint8_t *marks, size_t marks_len,
+                         uint8_t *reports, size_t reports_len);
 
 /* Writes the bounds of a tile: the part of the image that it covers.
  *

@@ -1,4 +1,4 @@
-/* guards: what the two functions do with lent buffers that are short, exactly long enough, and longer.
+/* guards: what the functions do with lent buffers that are short, exactly long enough, and longer.
  *
  * Every buffer is lent twice: with an inaccessible page right behind its last byte, then with one right before its first. Its other side is watched by
  * bytes of a pattern. So any access outside is found: by a signal, which ends this program, or by a byte that has changed.
@@ -338,6 +338,70 @@ static void check_longest_sheet(void)
     run_all(&sheet, &right, cases, COUNT(cases));
 }
 
+/* SETUP: the table, the marks cleared, what is reported; a refusal leaves all as it was, and reports that are too short come before all else */
+static void check_setup(void)
+{
+    static const struct {
+        const char *name;
+        size_t sheet, table, marks, reports;
+        int32_t answer;
+    } cases[] = {
+        {"setup, exactly", 160, 32, 16, 16, 0},
+        {"setup, all longer", 160, 40, 17, 20, 0},
+        {"setup, sheet a byte short", 159, 32, 16, 16, BONXIGARTH_BAD_LENGTH},
+        {"setup, sheet a record short", 128, 32, 16, 16, BONXIGARTH_BAD_SHAPE},
+        {"setup, marks a byte short", 160, 32, 15, 16, BONXIGARTH_SHORT_MARKS},
+        {"setup, table a byte short", 160, 31, 16, 16, BONXIGARTH_SHORT_TABLE},
+        {"setup, table and marks short", 160, 31, 15, 16, BONXIGARTH_SHORT_MARKS},
+        {"setup, reports a byte short", 160, 32, 16, 15, BONXIGARTH_SHORT_OUTPUT},
+        {"setup, no reports", 160, 32, 16, 0, BONXIGARTH_SHORT_OUTPUT},
+        {"setup, all short", 159, 31, 15, 15, BONXIGARTH_SHORT_OUTPUT},
+    };
+    static const uint32_t table_words[8] = {4, 3, 2, 2, 5, 5, 2, 1};
+    static const uint8_t cleared[16];
+    static const uint8_t right[16] = {0, 0, 0, 4, 0, 0, 0, 2, 0, 0, 0, 32, 0, 0, 0, 16};
+    struct sheet sheet = {{0}, 0};
+    uint8_t entries[32];
+
+    ADD(&sheet, 1, 0, 0, 64, 32, 2, 1, 1);
+    ADD(&sheet, 2, 1, 1, 2);
+    ADD(&sheet, 3, 4, 3);
+    ADD(&sheet, 3, 5, 5);
+    ADD(&sheet, 5, 2);
+    for (int i = 0; i < 8; i++)
+        put_word(entries + 4 * i, table_words[i]);
+    for (size_t i = 0; i < 2 * COUNT(cases); i++) {
+        size_t k = i / 2;
+        enum side side = i % 2 == 0 ? PAGE_BEHIND : PAGE_BEFORE;
+        struct lent records = lend(cases[k].sheet, side), table = lend(cases[k].table, side);
+        struct lent marks = lend(cases[k].marks, side), reports = lend(cases[k].reports, side);
+        int accepted = cases[k].answer == 0;
+        int32_t answer;
+
+        memcpy(records.bytes, sheet.bytes, records.length);
+        note(&records);
+        note(&table);
+        note(&marks);
+        note(&reports);
+        answer = bonxigarth_setup(records.bytes, records.length, table.bytes, table.length,
+                                  marks.bytes, marks.length, reports.bytes, reports.length);
+        check(answer == cases[k].answer, cases[k].name, "the answer");
+        check(only_changed(&records, 0), cases[k].name, "the sheet is only read");
+        check(only_changed(&table, accepted ? sizeof entries : 0), cases[k].name, "the table beyond what is needed");
+        check(only_changed(&marks, accepted ? sizeof cleared : 0), cases[k].name, "the marks beyond what is needed");
+        check(only_changed(&reports, accepted ? sizeof right : 0), cases[k].name, "the bytes beyond the reports");
+        if (answer == 0) {
+            check(starts_with(&table, entries, sizeof entries), cases[k].name, "the table");
+            check(starts_with(&marks, cleared, sizeof cleared), cases[k].name, "the marks");
+            check(starts_with(&reports, right, sizeof right), cases[k].name, "the reports");
+        }
+        give_back(&records);
+        give_back(&table);
+        give_back(&marks);
+        give_back(&reports);
+    }
+}
+
 /* TILE BOUNDS: tile 4 of a grid of 3 by 3, or a tile that there is none of */
 static void check_bounds(void)
 {
@@ -381,6 +445,7 @@ int main(void)
     check_empty_tile();
     check_most_packets();
     check_longest_sheet();
+    check_setup();
     check_bounds();
     printf("%d passed, %d failed\n", passed, failed);
     return failed != 0;

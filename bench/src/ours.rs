@@ -19,6 +19,17 @@ mod exports {
             output_len: usize,
         ) -> i32;
 
+        pub fn bonxigarth_setup(
+            sheet: *const u8,
+            sheet_len: usize,
+            table: *mut u8,
+            table_len: usize,
+            marks: *mut u8,
+            marks_len: usize,
+            reports: *mut u8,
+            reports_len: usize,
+        ) -> i32;
+
         pub fn bonxigarth_tile_bounds(
             x0: u32,
             y0: u32,
@@ -60,6 +71,24 @@ pub fn whole_run(
     usize::try_from(answer).map_err(|_| Refusal(answer))
 }
 
+/// Sets a sheet up and writes what setup reports, big-endian, to the first 16 bytes of `reports`.
+pub fn setup(sheet: &[u8], table: &mut [u8], marks: &mut [u8], reports: &mut [u8]) -> Result<(), Refusal> {
+    // SAFETY: four slices with their own lengths; the three that are written are not shared.
+    let answer = unsafe {
+        exports::bonxigarth_setup(
+            sheet.as_ptr(),
+            sheet.len(),
+            table.as_mut_ptr(),
+            table.len(),
+            marks.as_mut_ptr(),
+            marks.len(),
+            reports.as_mut_ptr(),
+            reports.len(),
+        )
+    };
+    done(answer)
+}
+
 /// Writes tx0, ty0, tx1 and ty1, big-endian, to the first 16 bytes of `output`.
 pub fn tile_bounds(grid: &Grid, output: &mut [u8]) -> Result<(), Refusal> {
     let [x0, y0, x1, y1, tx0, ty0, tdx, tdy, tw, th, tileno] = grid.words();
@@ -81,6 +110,10 @@ pub fn tile_bounds(grid: &Grid, output: &mut [u8]) -> Result<(), Refusal> {
             output.len(),
         )
     };
+    done(answer)
+}
+
+fn done(answer: i32) -> Result<(), Refusal> {
     if answer == 0 {
         Ok(())
     } else {

@@ -53,6 +53,12 @@ pub struct Reports {
     pub dy_min: u32,
 }
 
+impl Reports {
+    pub fn words(&self) -> [u32; 4] {
+        [self.max_prec, self.max_res, self.dx_min, self.dy_min]
+    }
+}
+
 impl Progressions {
     pub fn count(&self) -> usize {
         match self {

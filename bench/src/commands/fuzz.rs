@@ -49,7 +49,8 @@ fn one(bytes: &[u8], lengths: Lent) -> Result<(), String> {
     }
     let expected = model::run(bytes, Points::Candidates);
     lent::sheet(bytes, &expected)?;
-    lent::run(bytes, &expected, lengths)
+    lent::run(bytes, &expected, lengths)?;
+    lent::set_up(bytes, &expected, lengths)
 }
 
 /// Any bytes, or a sheet with some bytes changed, or damaged records.

@@ -42,7 +42,10 @@ pub fn sheet(bytes: &[u8], expected: &Result<Answer, i32>) -> Result<(), String>
     let random = &mut Random::at(bytes.len() as u64, bytes.iter().map(|&byte| byte as u64).sum());
     let needs = expected.as_ref().map_or(Lent { table: 64, marks: 64, output: 1024 }, Answer::needs);
     run(bytes, expected, needs)?;
-    run(bytes, expected, other_lengths(random, needs))
+    run(bytes, expected, other_lengths(random, needs))?;
+    let needs = Lent { output: 16, ..needs };
+    set_up(bytes, expected, needs)?;
+    set_up(bytes, expected, other_lengths(random, needs))
 }
 
 /// Lengths around what is needed: none, one short, right, one more, many more.
@@ -76,6 +79,30 @@ pub fn run(bytes: &[u8], expected: &Result<Answer, i32>, lent: Lent) -> Result<(
     table.expect("table", &words)?;
     marks.expect("marks", &needed)?;
     output.expect("output", &records)
+}
+
+/// Setup with these lengths lent, the output for what it reports.
+pub fn set_up(bytes: &[u8], expected: &Result<Answer, i32>, lent: Lent) -> Result<(), String> {
+    let mut table = Buffer::new(lent.table, 0x5a);
+    let mut marks = Buffer::new(lent.marks, 0xc3);
+    let mut reports = Buffer::new(lent.output, 0x3c);
+    let answer = ours::setup(bytes, table.lent(), marks.lent(), reports.lent());
+
+    let outcome = expected.as_ref().map_err(|&number| number);
+    let outcome = match lent.output {
+        0..=15 => Err(-8),
+        _ => outcome.and_then(|answer| answer.fits(Lent { output: usize::MAX, ..lent }).map(|()| answer)),
+    };
+    same(&format!("our setup with {lent:?}"), &outcome.map(|_| ()).map_err(Refusal), &answer)?;
+    let (words, cleared, reported) = match outcome {
+        Ok(answer) => {
+            (big_endian(&answer.table), vec![0; answer.marks.len()], big_endian(&[answer.reports.words()]))
+        }
+        Err(_) => Default::default(),
+    };
+    table.expect("table after setup", &words)?;
+    marks.expect("marks after setup", &cleared)?;
+    reports.expect("reports", &reported)
 }
 
 /// Tile bounds with outputs of many lengths.

@@ -7,6 +7,8 @@ use denote.Triple.Clauses.{AtExit}
 use Rattle.laws.specs.Determined.{OneAnswer}
 use Rattle.host.proofs.bonxigarth_whole_run.Kinds as whole-run-kinds
 use Rattle.host.proofs.bonxigarth_whole_run.Reads as whole-run
+use Rattle.host.proofs.bonxigarth_setup.Kinds as setup-kinds
+use Rattle.host.proofs.bonxigarth_setup.Reads as setup
 use Rattle.host.proofs.bonxigarth_tile_bounds.Kinds as tile-bounds-kinds
 use Rattle.host.proofs.bonxigarth_tile_bounds.Reads as tile-bounds
 
@@ -17,6 +19,14 @@ pub whole-run-leaves : (κs : Lfts 4) (a : Dens κs whole-run-kinds.ps) (r s : r
     → whole-run.Post κs a r e → whole-run.Post κs a s f
     → (now (e .1 .0) ≡ now (f .1 .0)) × (now (e .1 .1 .0) ≡ now (f .1 .1 .0)) × (now (e .1 .1 .1 .0) ≡ now (f .1 .1 .1 .0))
 whole-run-leaves κs a r s e f p q = (p .1 .0 ∙ sym (q .1 .0), p .1 .1 .0 ∙ sym (q .1 .1 .0), p .1 .1 .1 ∙ sym (q .1 .1 .1))
+
+pub setup-determined : OneAnswer setup-kinds.ps setup-kinds.r setup.Post
+setup-determined κs a r s e f p q = p .0 ∙ sym (q .0)
+
+pub setup-leaves : (κs : Lfts 4) (a : Dens κs setup-kinds.ps) (r s : resT setup-kinds.r κs .Denot) (e f : AtExit (endedOf 4 setup-kinds.ps setup-kinds.r) κs)
+    → setup.Post κs a r e → setup.Post κs a s f
+    → (now (e .1 .0) ≡ now (f .1 .0)) × (now (e .1 .1 .0) ≡ now (f .1 .1 .0)) × (now (e .1 .1 .1 .0) ≡ now (f .1 .1 .1 .0))
+setup-leaves κs a r s e f p q = (p .1 .0 ∙ sym (q .1 .0), p .1 .1 .0 ∙ sym (q .1 .1 .0), p .1 .1 .1 ∙ sym (q .1 .1 .1))
 
 pub tile-bounds-determined : OneAnswer tile-bounds-kinds.ps tile-bounds-kinds.r tile-bounds.Post
 tile-bounds-determined κs a r s e f p q = p .0 ∙ sym (q .0)

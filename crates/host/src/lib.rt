@@ -10,6 +10,7 @@ ghost use lib.ListN.{length};
 ghost use Rattle.words.specs.Words.{wordsBytes, over};
 ghost use Rattle.packets.specs.Bounds.{boundsOf};
 ghost use Rattle.packets.specs.Calls.{wholeRunOf};
+ghost use Rattle.host.specs.Setup.{setupForC};
 
 // Sets a sheet up and lists its packets; answers how many there are, or -1 to -8, and nothing changes.
 #[no_mangle]
@@ -27,15 +28,41 @@ pub extern "C" fn bonxigarth_whole_run(
     walks::whole::whole_run(sheet, table, marks, output)
 }
 
-// The four bounds, big-endian.
-fn put_area(output: &mut [u8], a: Area)
+// Four words, big-endian.
+fn put_four(output: &mut [u8], a: u32, b: u32, c: u32, d: u32)
     requires { ⌜ 16 ≤ length (now output) ⌝ }
-    ensures { λ _. ⌜ now (output .exit) ≡ over (wordsBytes (a .x0 ∷ a .y0 ∷ a .x1 ∷ a .y1 ∷ [])) (now (output .entry)) ⌝ }
+    ensures { λ _. ⌜ now (output .exit) ≡ over (wordsBytes (a ∷ b ∷ c ∷ d ∷ [])) (now (output .entry)) ⌝ }
 {
-    put_word(output, 0, a.x0);
-    put_word(output, 4, a.y0);
-    put_word(output, 8, a.x1);
-    put_word(output, 12, a.y1);
+    put_word(output, 0, a);
+    put_word(output, 4, b);
+    put_word(output, 8, c);
+    put_word(output, 12, d);
+}
+
+// Sets a sheet up and writes what setup reports; answers 0, or -8 before all else, or -1 to -7, and nothing changes.
+#[no_mangle]
+pub extern "C" fn bonxigarth_setup(
+    sheet: &[u8],
+    table: &mut [u8],
+    marks: &mut [u8],
+    reports: &mut [u8],
+) -> i32
+    ensures says { λ r. ⌜ r ≡ setupForC (now (sheet .entry)) (now (table .entry)) (now (marks .entry)) (now (reports .entry)) .number ⌝ }
+    ensures written { λ _. ⌜ now (table .exit) ≡ setupForC (now (sheet .entry)) (now (table .entry)) (now (marks .entry)) (now (reports .entry)) .table ⌝ }
+    ensures cleared { λ _. ⌜ now (marks .exit) ≡ setupForC (now (sheet .entry)) (now (table .entry)) (now (marks .entry)) (now (reports .entry)) .marks ⌝ }
+    ensures told { λ _. ⌜ now (reports .exit) ≡ setupForC (now (sheet .entry)) (now (table .entry)) (now (marks .entry)) (now (reports .entry)) .output ⌝ }
+{
+    if reports.len() < 16 {
+        return -8;
+    }
+    let up = sheets::setup(sheet, table, marks);
+    let verdict = up.verdict;
+    let number = verdict.number();
+    if number == 0 {
+        let st = up.state;
+        put_four(reports, st.max_prec, st.max_res, st.dx_min, st.dy_min);
+    }
+    number
 }
 
 // Writes the bounds of a tile and answers 0; or -10, or else -8, and nothing changes.
@@ -71,7 +98,7 @@ pub extern "C" fn bonxigarth_tile_bounds(
             if output.len() < 16 {
                 return -8;
             }
-            put_area(output, a);
+            put_four(output, a.x0, a.y0, a.x1, a.y1);
             0
         }
         Tile::Outside => -10,

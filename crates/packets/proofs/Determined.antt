@@ -10,6 +10,14 @@ use Rattle.packets.proofs.state.Progression.none.Kinds as none-kinds
 use Rattle.packets.proofs.state.Progression.none.Reads as none
 use Rattle.packets.proofs.state.State.empty.Kinds as empty-kinds
 use Rattle.packets.proofs.state.State.empty.Reads as empty
+use Rattle.packets.proofs.state.Progression.in_range.Kinds as in-range-kinds
+use Rattle.packets.proofs.state.Progression.in_range.Reads as in-range
+use Rattle.packets.proofs.state.State.tile_in_range.Kinds as tile-in-range-kinds
+use Rattle.packets.proofs.state.State.tile_in_range.Reads as tile-in-range
+use Rattle.packets.proofs.state.State.component_in_range.Kinds as component-in-range-kinds
+use Rattle.packets.proofs.state.State.component_in_range.Reads as component-in-range
+use Rattle.packets.proofs.state.State.exponents_in_range.Kinds as exponents-in-range-kinds
+use Rattle.packets.proofs.state.State.exponents_in_range.Reads as exponents-in-range
 
 pub number-determined : OneAnswer number-kinds.ps number-kinds.r number.Post
 number-determined κs a r s e f = determined _ r s
@@ -25,3 +33,15 @@ none-determined κs a r s e f = determined _ r s
 
 pub empty-determined : OneAnswer empty-kinds.ps empty-kinds.r empty.Post
 empty-determined κs a r s e f = determined _ r s
+
+pub in-range-determined : OneAnswer in-range-kinds.ps in-range-kinds.r in-range.Post
+in-range-determined κs a r s e f = determined _ r s
+
+pub tile-in-range-determined : OneAnswer tile-in-range-kinds.ps tile-in-range-kinds.r tile-in-range.Post
+tile-in-range-determined κs a r s e f = determined _ r s
+
+pub component-in-range-determined : OneAnswer component-in-range-kinds.ps component-in-range-kinds.r component-in-range.Post
+component-in-range-determined κs a r s e f = determined _ r s
+
+pub exponents-in-range-determined : OneAnswer exponents-in-range-kinds.ps exponents-in-range-kinds.r exponents-in-range.Post
+exponents-in-range-determined κs a r s e f = determined _ r s

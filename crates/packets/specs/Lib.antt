@@ -14,6 +14,7 @@ pub mod Sound
 pub mod Calls
 pub mod Bounds
 pub mod Text
+pub mod Signed
 pub mod Good
 pub mod Loops
 pub mod Standard

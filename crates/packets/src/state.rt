@@ -1,5 +1,6 @@
 // A sheet's fields as setup answers them, by value. Precinct exponents are not here: they stand in the table.
 ghost use mathlib.Core.Path.{_≡_};
+ghost use Rattle.packets.specs.Sheet.{within, tileRange, componentRange, exponentRange, progressionRange};
 ghost use Rattle.packets.specs.State.{noProgression, emptyState};
 
 // A progression as its record has it. Names are those of opj_poc_t.
@@ -75,6 +76,20 @@ impl Progression {
             compno1: 0,
         }
     }
+
+    // 01: the ranges of a record of kind 4.
+    pub fn in_range(resno0: u32, layno1: u32, resno1: u32) -> bool
+        ensures { λ r. ⌜ r ≡ progressionRange resno0 layno1 resno1 ⌝ }
+    {
+        (resno0 <= Progression::MAX_RESNO0)
+            & ((layno1 <= State::MAX_LAYERS) & (resno1 <= Progression::MAX_RESNO1))
+    }
+}
+
+fn within_range(lo: u32, hi: u32, x: u32) -> bool
+    ensures { λ r. ⌜ r ≡ within lo hi x ⌝ }
+{
+    (lo <= x) & (x <= hi)
 }
 
 impl State {
@@ -121,5 +136,40 @@ impl State {
             dx_min: 0,
             dy_min: 0,
         }
+    }
+
+    // 01: the ranges of the tile's record.
+    pub fn tile_in_range(
+        tx0: u32,
+        ty0: u32,
+        tx1: u32,
+        ty1: u32,
+        layers: u32,
+        components: u32,
+        progressions: u32,
+    ) -> bool
+        ensures { λ r. ⌜ r ≡ tileRange tx0 ty0 tx1 ty1 layers components progressions ⌝ }
+    {
+        (tx0 <= tx1)
+            & ((ty0 <= ty1)
+                & (within_range(1, State::MAX_LAYERS, layers)
+                    & (within_range(1, State::MAX_COMPONENTS, components)
+                        & within_range(1, State::MAX_PROGRESSIONS, progressions))))
+    }
+
+    // 01: the ranges of a component's record.
+    pub fn component_in_range(dx: u32, dy: u32, resolutions: u32) -> bool
+        ensures { λ r. ⌜ r ≡ componentRange dx dy resolutions ⌝ }
+    {
+        within_range(1, State::MAX_STEP, dx)
+            & (within_range(1, State::MAX_STEP, dy)
+                & within_range(1, State::MAX_RESOLUTIONS, resolutions))
+    }
+
+    // 01: the range of a resolution's precinct exponents.
+    pub fn exponents_in_range(pdx: u32, pdy: u32) -> bool
+        ensures { λ r. ⌜ r ≡ exponentRange pdx pdy ⌝ }
+    {
+        (pdx <= State::MAX_EXPONENT) & (pdy <= State::MAX_EXPONENT)
     }
 }

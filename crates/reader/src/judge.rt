@@ -1,9 +1,10 @@
 // The verdict on a sheet: its records in order, the first bad one decides. A verdict is the number that a refusal carries, or 0.
+use packets::state::Progression;
 use packets::state::State;
 use words::word_at;
 ghost use mathlib.Core.Path.{_≡_};
 ghost use Prim.Native.Nat.{_-_, _≤_};
-ghost use Rattle.packets.specs.Sheet.{wd, unnamed, within, judged, tileVerdict, componentVerdict, resolutionVerdict, progressionVerdict, volumeVerdict, wholeTileVerdict, recordVerdict, dueBehind, complete, readFrom, readVerdict, due};
+ghost use Rattle.packets.specs.Sheet.{wd, unnamed, judged, tileVerdict, componentVerdict, resolutionVerdict, progressionVerdict, volumeVerdict, wholeTileVerdict, recordVerdict, dueBehind, complete, readFrom, readVerdict, due};
 ghost use Rattle.reader.specs.Reader.{dueOf};
 
 // What is still due: resolutions of the component at hand, components, progressions.
@@ -11,12 +12,6 @@ pub(crate) struct Due {
     pub resolutions: u32,
     pub components: u32,
     pub progressions: u32,
-}
-
-fn within_range(lo: u32, hi: u32, x: u32) -> bool
-    ensures { λ r. ⌜ r ≡ within lo hi x ⌝ }
-{
-    (lo <= x) & (x <= hi)
 }
 
 fn verdict(shape: bool, range: bool) -> u32
@@ -54,10 +49,15 @@ fn tile_verdict(s: &[u8], i: usize) -> u32
     ensures { λ r. ⌜ r ≡ tileVerdict (now (s .entry)) i ⌝ }
 {
     let shape = word(s, i, 0) == 1;
-    let range = (word(s, i, 1) <= word(s, i, 3))
-        & ((word(s, i, 2) <= word(s, i, 4))
-            & (within_range(1, 65_535, word(s, i, 5))
-                & (within_range(1, 16, word(s, i, 6)) & within_range(1, 32, word(s, i, 7)))));
+    let range = State::tile_in_range(
+        word(s, i, 1),
+        word(s, i, 2),
+        word(s, i, 3),
+        word(s, i, 4),
+        word(s, i, 5),
+        word(s, i, 6),
+        word(s, i, 7),
+    );
     verdict(shape, range)
 }
 
@@ -66,8 +66,7 @@ fn component_verdict(s: &[u8], i: usize) -> u32
     ensures { λ r. ⌜ r ≡ componentVerdict (now (s .entry)) i ⌝ }
 {
     let shape = (word(s, i, 0) == 2) & no_more(s, i, 4);
-    let range = within_range(1, 255, word(s, i, 1))
-        & (within_range(1, 255, word(s, i, 2)) & within_range(1, 33, word(s, i, 3)));
+    let range = State::component_in_range(word(s, i, 1), word(s, i, 2), word(s, i, 3));
     verdict(shape, range)
 }
 
@@ -76,7 +75,7 @@ fn resolution_verdict(s: &[u8], i: usize) -> u32
     ensures { λ r. ⌜ r ≡ resolutionVerdict (now (s .entry)) i ⌝ }
 {
     let shape = (word(s, i, 0) == 3) & no_more(s, i, 3);
-    let range = (word(s, i, 1) <= 15) & (word(s, i, 2) <= 15);
+    let range = State::exponents_in_range(word(s, i, 1), word(s, i, 2));
     verdict(shape, range)
 }
 
@@ -85,7 +84,7 @@ fn volume_verdict(s: &[u8], i: usize) -> u32
     ensures { λ r. ⌜ r ≡ volumeVerdict (now (s .entry)) i ⌝ }
 {
     let shape = (word(s, i, 0) == 4) & no_more(s, i, 7);
-    let range = (word(s, i, 2) <= 32) & ((word(s, i, 4) <= 65_535) & (word(s, i, 5) <= 33));
+    let range = Progression::in_range(word(s, i, 2), word(s, i, 4), word(s, i, 5));
     verdict(shape, range)
 }
 

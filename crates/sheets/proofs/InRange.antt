@@ -1,10 +1,8 @@
 -- The fields of a state place by place: one test for each place of an array is the definition's two tests, of the places taken and of those beyond. Assumes nothing.
 use mathlib.Core.Path.{_≡_, refl, sym}
 use mathlib.Core.Bool.{Bool, true, false, _&&_, _||_}
-use Prim.Native.Nat.{ℕ, zero, suc, _-_, _^_, _≤_}
-use native.Mathlib.Omega.{arith}
+use Prim.Native.Nat.{ℕ, _-_, _≤_}
 use lib.Dec.{ltb, leb, eqb}
-use lib.IntN.{ℤ, pos, negsuc}
 use mir.Syntax.{w32}
 use mir.Val.{SFits, ofZ}
 use borrow.Author.Tests.{lt-ltb, le-ltb, ne-eqb, leb-true}
@@ -14,6 +12,7 @@ use Rattle.laws.specs.Parts.{all-parts}
 use Rattle.packets.specs.Sheet.{within, progressionRange}
 use Rattle.packets.specs.Tile.{dxOf, dyOf, resOf}
 use Rattle.packets.specs.Grid.{changeOf}
+use Rattle.packets.specs.Signed.{bits-zero}
 use Rattle.packets.specs.Sound.{tileGood, componentsSound, isZero, noRange, progressionsSound}
 use Rattle.packets.specs.declared.state.Progression.{Progression}
 use Rattle.packets.specs.declared.state.State.{State}
@@ -22,12 +21,6 @@ use Rattle.sheets.specs.Fields.{componentFits, progressionFits}
 or-false : (t : Bool) → (t || false) ≡ t
 or-false true = refl
 or-false false = refl
-
--- a signed number is 0 just where its bits are
-bits-zero : (z : ℤ) → SFits w32 z → eqb (ofZ w32 z) 0 ≡ isZero z
-bits-zero (pos zero) f = refl
-bits-zero (pos (suc n)) f = ne-eqb (suc n) 0 (λ e. omega arith)
-bits-zero (negsuc n) f = let h : 1 ≤ 2 ^ 32 - suc n = omega (arith, f .sfits) in ne-eqb (2 ^ 32 - suc n) 0 (λ e. omega arith)
 
 -- the cases of a progression's test
 module _ (there alone : Bool) (q : Progression) where

@@ -1,17 +1,13 @@
 -- An order's number from the bits that a match on it reads. Assumes nothing.
 use mathlib.Core.Path.{_≡_, refl}
-use Prim.Native.Nat.{ℕ, zero, suc, _-_, _^_, _≤_, _<_}
+use Prim.Native.Nat.{ℕ, zero, suc, _≤_, _<_}
 use native.Mathlib.Omega.{arith}
 use lib.IntN.{ℤ, pos, negsuc}
 use mir.Syntax.{w32}
-use mir.Val.{SFits, ofZ, toZ}
-use mir.Facts.{toZ-ofZ}
+use mir.Val.{SFits, ofZ}
 use Rattle.packets.specs.Orders.{orderOf}
+use Rattle.packets.specs.Signed.{large}
 use Rattle.sheets.specs.Ranges.{orderNumber}
-
--- a negative number's bits are large
-large : (n : ℕ) → SFits w32 (negsuc n) → 5 ≤ 2 ^ 32 - suc n
-large n f = omega (arith, f .sfits)
 
 number-below : (n : ℕ) → n < 5 → n ≡ orderNumber (orderOf (pos n))
 number-below zero h = refl
@@ -36,7 +32,3 @@ order-is (negsuc n) f k e h = omega (arith, large n f)
 pub order-none : (z : ℤ) → SFits w32 z → 5 ≤ ofZ w32 z → 5 ≡ orderNumber (orderOf z)
 order-none (pos n) f h = number-above n h
 order-none (negsuc n) f h = refl
-
--- an order that was handed on by its bits
-pub order-said : (z : ℤ) → SFits w32 z → {r : ℕ} → r ≡ orderNumber (orderOf (toZ w32 (ofZ w32 z))) → r ≡ orderNumber (orderOf z)
-order-said z f e = rw (toZ-ofZ f) at e

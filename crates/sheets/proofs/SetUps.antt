@@ -2,11 +2,11 @@
 use mathlib.Core.Path.{_≡_, refl, sym, ap, _∙_}
 use mathlib.Core.Bool.{true, false}
 use mathlib.Core.List.{List}
-use Prim.Native.Nat.{ℕ, suc, _-_, _*_, _^_, _≤_, _<_}
+use Prim.Native.Nat.{ℕ, _-_, _*_, _^_, _≤_, _<_}
 use native.Mathlib.Omega.{arith}
 use lib.ListN.{length, replicate}
 use lib.Dec.{leb, eqb}
-use lib.IntN.{ℤ, pos, negsuc}
+use lib.IntN.{ℤ, pos}
 use mir.Syntax.{w32}
 use mir.Val.{SFits, ofZ}
 use borrow.Author.Tests.{le-leb, lt-leb, leb-true, eq-eqb, ne-eqb, eqb-true}
@@ -20,6 +20,7 @@ use Rattle.packets.specs.Grid.{gridAgreed}
 use Rattle.packets.specs.Table.{sheetIn, tableOf}
 use Rattle.packets.specs.Answers.{SetUpSaid, ofSetUp}
 use Rattle.packets.specs.Calls.{refusal, setupVerdict, accepted}
+use Rattle.packets.specs.Signed.{negative}
 use Rattle.packets.specs.Reading.{read-good}
 use Rattle.packets.specs.Fields.{tile-good, components-sound, progressions-sound}
 use Rattle.packets.specs.declared.state.State.{State}
@@ -31,7 +32,6 @@ use Rattle.survey.specs.declared.Source.the-variants.{Records}
 use Rattle.survey.specs.Survey.{surveyed, surveyOf}
 use Rattle.survey.specs.Sources.{records-survey, prec-few}
 use Rattle.sheets.specs.Reports.{withReports}
-use Rattle.sheets.specs.Refused.{negative}
 use Rattle.sheets.specs.Room.{roomVerdict, setupIn}
 use Rattle.sheets.proofs.InRange.{tile-some}
 use Rattle.sheets.proofs.SoundBy.{fieldsTest, some-levels}

@@ -4,24 +4,21 @@ use packets::state::State;
 ghost use mathlib.Core.Path.{_≡_};
 ghost use mathlib.Core.Bool.{_&&_};
 ghost use Prim.Native.Nat.{_≤_};
-ghost use Rattle.packets.specs.Sheet as sheet;
 ghost use Rattle.packets.specs.Sound.{tileGood, componentsSound, noRange, progressionsSound};
 ghost use Rattle.sheets.specs.Fields.{componentFits, progressionFits};
-
-fn within(lo: u32, hi: u32, x: u32) -> bool
-    ensures { λ r. ⌜ r ≡ sheet.within lo hi x ⌝ }
-{
-    (lo <= x) & (x <= hi)
-}
 
 fn tile_good(st: State) -> bool
     ensures { λ r. ⌜ r ≡ tileGood st ⌝ }
 {
-    (st.tx0 <= st.tx1)
-        & ((st.ty0 <= st.ty1)
-            & (within(1, State::MAX_LAYERS, st.layers)
-                & (within(1, State::MAX_COMPONENTS, st.components)
-                    & within(1, State::MAX_PROGRESSIONS, st.progressions))))
+    State::tile_in_range(
+        st.tx0,
+        st.ty0,
+        st.tx1,
+        st.ty1,
+        st.layers,
+        st.components,
+        st.progressions,
+    )
 }
 
 // A component's fields are in range; where there is none they are 0.
@@ -29,8 +26,7 @@ fn component_fits(there: bool, dx: u32, dy: u32, resolutions: u32) -> bool
     ensures { λ r. ⌜ r ≡ componentFits there dx dy resolutions ⌝ }
 {
     if there {
-        within(1, State::MAX_STEP, dx)
-            & (within(1, State::MAX_STEP, dy) & within(1, State::MAX_RESOLUTIONS, resolutions))
+        State::component_in_range(dx, dy, resolutions)
     } else {
         (dx == 0) & ((dy == 0) & (resolutions == 0))
     }
@@ -69,8 +65,7 @@ fn progression_fits(there: bool, alone: bool, q: Progression) -> bool
 {
     if there {
         if q.kind == Progression::VOLUME {
-            return (q.resno0 <= Progression::MAX_RESNO0)
-                & ((q.layno1 <= State::MAX_LAYERS) & (q.resno1 <= Progression::MAX_RESNO1));
+            return Progression::in_range(q.resno0, q.layno1, q.resno1);
         }
         return (q.kind == Progression::WHOLE_TILE) & (alone & no_range(q));
     }

@@ -1,7 +1,7 @@
 -- What an order wants of the grid, from the bits that a match on it reads; and that the progressions beyond the array want nothing. Assumes nothing.
 use mathlib.Core.Path.{_≡_, refl, sym, ap, _∙_}
 use mathlib.Core.Logic.{⊎-elim}
-use Prim.Native.Nat.{ℕ, zero, suc, _+_, _-_, _^_, _≤_, _<_, min}
+use Prim.Native.Nat.{ℕ, zero, suc, _+_, _-_, _≤_, _<_, min}
 use native.Mathlib.Omega.{arith}
 use lib.IntN.{ℤ, pos, negsuc}
 use lib.ListN.{length, List·getD-eq-default}
@@ -13,12 +13,9 @@ use Rattle.laws.specs.Extremes.{max-beyond}
 use Rattle.packets.specs.State.{noProgression}
 use Rattle.packets.specs.Orders.{orderOf}
 use Rattle.packets.specs.Grid.{changeOf}
+use Rattle.packets.specs.Signed.{large}
 use Rattle.packets.specs.declared.state.State.{State}
 use Rattle.survey.specs.Passing.{wantOf, wantedOf}
-
--- a negative number's bits are large
-large : (n : ℕ) → SFits w32 (negsuc n) → 5 ≤ 2 ^ 32 - suc n
-large n f = omega (arith, f .sfits)
 
 pub want-two : (z : ℤ) → SFits w32 z → ofZ w32 z ≡ 2 → 2 ≡ wantOf (orderOf z)
 want-two (pos n) f e = rw e

@@ -7,19 +7,9 @@ use geometry::tile::Area;
 use packets::state::State;
 ghost use mathlib.Core.Path.{_≡_};
 ghost use Prim.Native.Nat.{_+_, _*_, _≤_, _<_};
-ghost use Rattle.packets.specs.Sheet.{componentRange};
 ghost use lib.ListN.{length};
 ghost use Rattle.survey.specs.Passing.{sizesAt, entrySums, resolutionSums, componentSums};
 ghost use Rattle.survey.specs.Kept.{Keeps, entryWords, resolutionWords, componentWords};
-
-// 01: the range of a component's own fields.
-fn in_range(dx: u32, dy: u32, resolutions: u32) -> bool
-    ensures { λ r. ⌜ r ≡ componentRange dx dy resolutions ⌝ }
-{
-    ((1 <= dx) & (dx <= State::MAX_STEP))
-        & (((1 <= dy) & (dy <= State::MAX_STEP))
-            & ((1 <= resolutions) & (resolutions <= State::MAX_RESOLUTIONS)))
-}
 
 // The two words behind the exponents at place at are the width and the height, if they are to be checked.
 fn sizes_right(e: &[u8], at: usize, check: bool, width: u32, height: u32) -> bool
@@ -52,11 +42,8 @@ fn resolution(
     ensures keeps { λ r. ⌜ Keeps (now (kept .entry)) (now (kept .exit)) to (r .good) (entryWords (now (e .entry)) at x y level) ⌝ }
 {
     let pdx = words::word_at(e, at);
-    if State::MAX_EXPONENT < pdx {
-        return Sums::none();
-    }
     let pdy = words::word_at(e, at + 4);
-    if State::MAX_EXPONENT < pdy {
+    if !State::exponents_in_range(pdx, pdy) {
         return Sums::none();
     }
     let width = x.count(level, pdx);
@@ -139,7 +126,7 @@ pub(crate) fn component(
     ensures sums { λ r. ⌜ r ≡ componentSums (now (e .entry)) (λ i. first + apart * i) check tile dx dy n ⌝ }
     ensures keeps { λ r. ⌜ Keeps (now (kept .entry)) (now (kept .exit)) to (r .good) (componentWords (now (e .entry)) (λ i. first + apart * i) tile dx dy n) ⌝ }
 {
-    let ranged = in_range(dx, dy, n);
+    let ranged = State::component_in_range(dx, dy, n);
     if ranged {
         let x = Axis::of(tile.x0, tile.x1, dx);
         let y = Axis::of(tile.y0, tile.y1, dy);

@@ -18,7 +18,7 @@ use Rattle.packets.specs.Calls.{Setup, setupVerdict, accepted, turnedAway, Run,
 use Rattle.packets.specs.Meaning.{Sound, sound-means}
 use Rattle.packets.specs.WholeRun.{Passed, setup-passed, run-refuses, accepted-sound, accepted-clear}
 use Rattle.packets.specs.declared.answer.SetUp.{SetUp}
-use Rattle.sheets.specs.Refused.{negative}
+use Rattle.packets.specs.Signed.{negative}
 use Rattle.sheets.specs.Room.{roomVerdict, setupIn}
 use Rattle.walks.specs.Running.{Total, totalOf}
 use Rattle.walks.specs.RunAll.{fromOn, all-listed}

@@ -14,8 +14,8 @@ enum-known-a c = search needs
 returns : tie.Need-returns
 returns c = let r = c .before .before .before .before .tile-bounds in short _ _ _ _ (r .result) (r .ensures) _ (c .before .before .a .given .1) (c .if1 .taken)
 
-put-area-requires : tie.Need-put-area-requires
-put-area-requires c κs = search needs
+put-four-requires : tie.Need-put-four-requires
+put-four-requires c κs = search needs
 
 enum-told : tie.Need-enum-told
 enum-told c = search needs
@@ -24,7 +24,7 @@ same-length : tie.Need-same-length
 same-length c = search needs
 
 returns-2 : tie.Need-returns-2
-returns-2 c = let r = c .before .before .before .before .before .before .before .before .tile-bounds in let t = told-all _ _ _ _ (r .result) (r .ensures) _ (c .before .before .before .before .before .before .a .given .1) (c .before .before .before .before .if1 .left) in (t .0, c .before .before .put-area .ensures ∙ t .1)
+returns-2 c = let r = c .before .before .before .before .before .before .before .before .tile-bounds in let t = told-all _ _ _ _ (r .result) (r .ensures) _ (c .before .before .before .before .before .before .a .given .1) (c .before .before .before .before .if1 .left) in (t .0, c .before .before .put-four .ensures ∙ t .1)
 
 returns-3 : tie.Need-returns-3
 returns-3 c = let r = c .before .before .tile-bounds in outside _ _ _ _ (r .result) (r .ensures) (c .enum-told .given .1)
@@ -36,7 +36,7 @@ bonxigarth-tile-bounds-spec =
     tile-bounds-requires
     enum-known-a
     returns
-    put-area-requires
+    put-four-requires
     enum-told
     same-length
     returns-2

@@ -12,20 +12,14 @@ no-more-requires c κs = search needs
 word-requires-2 : tie.Need-word-requires-2
 word-requires-2 c κs = search needs
 
-within-range-requires : tie.Need-within-range-requires
-within-range-requires c κs = search needs
-
 word-requires-3 : tie.Need-word-requires-3
 word-requires-3 c κs = search needs
-
-within-range-requires-2 : tie.Need-within-range-requires-2
-within-range-requires-2 c κs = search needs
 
 word-requires-4 : tie.Need-word-requires-4
 word-requires-4 c κs = search needs
 
-within-range-requires-3 : tie.Need-within-range-requires-3
-within-range-requires-3 c κs = search needs
+component-in-range-requires : tie.Need-component-in-range-requires
+component-in-range-requires c κs = search needs
 
 verdict-requires : tie.Need-verdict-requires
 verdict-requires c κs = search needs
@@ -40,10 +34,8 @@ component-verdict-spec =
     word-requires
     no-more-requires
     word-requires-2
-    within-range-requires
     word-requires-3
-    within-range-requires-2
     word-requires-4
-    within-range-requires-3
+    component-in-range-requires
     verdict-requires
     returns)

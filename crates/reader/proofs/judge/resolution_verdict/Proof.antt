@@ -15,6 +15,9 @@ word-requires-2 c κs = search needs
 word-requires-3 : tie.Need-word-requires-3
 word-requires-3 c κs = search needs
 
+exponents-in-range-requires : tie.Need-exponents-in-range-requires
+exponents-in-range-requires c κs = search needs
+
 verdict-requires : tie.Need-verdict-requires
 verdict-requires c κs = search needs
 
@@ -29,5 +32,6 @@ resolution-verdict-spec =
     no-more-requires
     word-requires-2
     word-requires-3
+    exponents-in-range-requires
     verdict-requires
     returns)

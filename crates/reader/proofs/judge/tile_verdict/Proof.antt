@@ -21,20 +21,14 @@ word-requires-5 c κs = search needs
 word-requires-6 : tie.Need-word-requires-6
 word-requires-6 c κs = search needs
 
-within-range-requires : tie.Need-within-range-requires
-within-range-requires c κs = search needs
-
 word-requires-7 : tie.Need-word-requires-7
 word-requires-7 c κs = search needs
-
-within-range-requires-2 : tie.Need-within-range-requires-2
-within-range-requires-2 c κs = search needs
 
 word-requires-8 : tie.Need-word-requires-8
 word-requires-8 c κs = search needs
 
-within-range-requires-3 : tie.Need-within-range-requires-3
-within-range-requires-3 c κs = search needs
+tile-in-range-requires : tie.Need-tile-in-range-requires
+tile-in-range-requires c κs = search needs
 
 verdict-requires : tie.Need-verdict-requires
 verdict-requires c κs = search needs
@@ -52,10 +46,8 @@ tile-verdict-spec =
     word-requires-4
     word-requires-5
     word-requires-6
-    within-range-requires
     word-requires-7
-    within-range-requires-2
     word-requires-8
-    within-range-requires-3
+    tile-in-range-requires
     verdict-requires
     returns)

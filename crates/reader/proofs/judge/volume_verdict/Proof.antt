@@ -18,6 +18,9 @@ word-requires-3 c κs = search needs
 word-requires-4 : tie.Need-word-requires-4
 word-requires-4 c κs = search needs
 
+in-range-requires : tie.Need-in-range-requires
+in-range-requires c κs = search needs
+
 verdict-requires : tie.Need-verdict-requires
 verdict-requires c κs = search needs
 
@@ -33,5 +36,6 @@ volume-verdict-spec =
     word-requires-2
     word-requires-3
     word-requires-4
+    in-range-requires
     verdict-requires
     returns)

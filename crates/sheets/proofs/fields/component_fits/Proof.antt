@@ -4,14 +4,8 @@ use borrow.Author.Needs.{needs}
 use Rattle.sheets.proofs.fields.component_fits.Statement.{statement}
 use Rattle.sheets.proofs.fields.component_fits.Tie as tie
 
-within-requires : tie.Need-within-requires
-within-requires c κs = search needs
-
-within-requires-2 : tie.Need-within-requires-2
-within-requires-2 c κs = search needs
-
-within-requires-3 : tie.Need-within-requires-3
-within-requires-3 c κs = search needs
+component-in-range-requires : tie.Need-component-in-range-requires
+component-in-range-requires c κs = search needs
 
 returns : tie.Need-returns
 unfolding componentFits
@@ -23,4 +17,4 @@ returns-2 c = cc
 
 pub component-fits-spec : {M : Type 1} → statement M
 component-fits-spec =
-    tie.close (tie.spec within-requires within-requires-2 within-requires-3 returns returns-2)
+    tie.close (tie.spec component-in-range-requires returns returns-2)

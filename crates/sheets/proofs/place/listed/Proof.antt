@@ -1,8 +1,8 @@
 -- `listed`: the order, the ranges, the resolution and then the position itself are tested, each as the positions have it. Assumes nothing.
-use Rattle.sheets.proofs.Numbered.{order-said}
+use Rattle.packets.specs.Signed.{by-bits}
 use Rattle.sheets.proofs.Listed.{no-order, out-of-range, component-there, no-resolution, in-test, fit-good}
 use Rattle.sheets.specs.Points.{inRange}
-use Rattle.sheets.specs.Ranges.{rangeIn, rangeFor, range-for}
+use Rattle.sheets.specs.Ranges.{orderNumber, rangeIn, rangeFor, range-for}
 use Rattle.packets.specs.Table.{sheetAt}
 use Rattle.packets.specs.declared.state.Progression.{Progression}
 use Rattle.packets.specs.declared.state.State.{State}
@@ -27,7 +27,7 @@ order-of-requires c κs = search needs
 
 returns : tie.Need-returns
 returns c = let z = c .before .before .before .before in
-    let e = order-said (z .args .q .prg) (search needs) (c .before .order-of .ensures) in
+    let e = by-bits (λ o. orderNumber (orderOf o)) (z .args .q .prg) (search needs) (c .before .order-of .ensures) in
     no-order (sheetAt (z .args .st) (now (z .args .table))) (rangeOf (z .args .st) (z .args .q)) (z .args .p) (orderOf (z .args .q .prg)) (sym e ∙ c .if1 .taken)
 
 range-of-requires : tie.Need-range-of-requires
@@ -50,7 +50,7 @@ of-resolution-requires c κs = let z = c .before .before .before .before .before
 
 returns-2 : tie.Need-returns-2
 returns-2 c = let z = c .before .before .before .before .before .before .before .before .before .before .before .before in
-    let e = order-said (z .args .q .prg) (search needs) (c .before .before .before .before .before .before .before .before .before .order-of .ensures) in
+    let e = by-bits (λ o. orderNumber (orderOf o)) (z .args .q .prg) (search needs) (c .before .before .before .before .before .before .before .before .before .order-of .ensures) in
     rw (c .of-resolution .ensures, e)
     (in-test (sheetAt (z .args .st) (now (z .args .table))) (rangeOf (z .args .st) (z .args .q)) (z .args .p) (fit-good (z .args .st) (now (z .args .table)) (z .pre)) (orderOf (z .args .q .prg)) (λ n. c .before .before .before .before .before .before .before .before .if1 .left (e ∙ n)) (in-range-same (z .args .st) (z .args .q) (z .args .p) (c .before .before .before .before .before .before .before .range-of .ensures) (c .before .before .before .before .before .before .in-range .ensures) (c .before .before .before .before .before .if2 .taken)))
 

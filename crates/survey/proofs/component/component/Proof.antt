@@ -14,18 +14,18 @@ use borrow.Author.Needs.{needs}
 use Rattle.survey.proofs.component.component.Statement.{statement}
 use Rattle.survey.proofs.component.component.Tie as tie
 
-in-range-requires : tie.Need-in-range-requires
-in-range-requires c κs = search needs
+component-in-range-requires : tie.Need-component-in-range-requires
+component-in-range-requires c κs = search needs
 
 of-requires : tie.Need-of-requires
-of-requires c κs = let a = c .before .before .before .before .args in in-range (a .dx) (a .dy) (a .n) (sym (c .before .in-range .ensures) ∙ c .if1 .taken) .dx-low
+of-requires c κs = let a = c .before .before .before .before .args in in-range (a .dx) (a .dy) (a .n) (sym (c .before .component-in-range .ensures) ∙ c .if1 .taken) .dx-low
 
 of-requires-2 : tie.Need-of-requires-2
-of-requires-2 c κs = let a = c .before .before .before .before .before .args in in-range (a .dx) (a .dy) (a .n) (sym (c .before .before .in-range .ensures) ∙ c .before .if1 .taken) .dy-low
+of-requires-2 c κs = let a = c .before .before .before .before .before .args in in-range (a .dx) (a .dy) (a .n) (sym (c .before .before .component-in-range .ensures) ∙ c .before .if1 .taken) .dy-low
 
 resolutions-requires : tie.Need-resolutions-requires
 resolutions-requires c κs = let a = c .before .before .before .before .before .before .before .args in
-    let g = in-range (a .dx) (a .dy) (a .n) (sym (c .before .before .before .before .in-range .ensures) ∙ c .before .before .before .if1 .taken) in
+    let g = in-range (a .dx) (a .dy) (a .n) (sym (c .before .before .before .before .component-in-range .ensures) ∙ c .before .before .before .if1 .taken) in
     let small : a .apart * a .n ≤ 32 * 33 = mul-le-mul (c .before .before .before .before .before .before .before .pre .1) (g .n-high) in
     let x = c .before .before .of .ensures in
     let y = c .before .of2 .ensures in
@@ -40,20 +40,20 @@ same-length c = search needs
 returns : tie.Need-returns
 unfolding componentSums
 returns c = let a = c .before .before .before .before .before .before .before .before .before .before .args in
-    let g : componentRange (a .dx) (a .dy) (a .n) ≡ true = sym (c .before .before .before .before .before .before .before .in-range .ensures) ∙ c .before .before .before .before .before .before .if1 .taken in
+    let g : componentRange (a .dx) (a .dy) (a .n) ≡ true = sym (c .before .before .before .before .before .before .before .component-in-range .ensures) ∙ c .before .before .before .before .before .before .if1 .taken in
     (rw (g, ← (c .before .before .before .before .before .of .ensures), ← (c .before .before .before .before .of2 .ensures)) (c .before .before .resolutions .ensures .0), rw (← (c .before .before .before .before .before .of .ensures), ← (c .before .before .before .before .of2 .ensures)) (c .before .before .resolutions .ensures .1))
 
 returns-2 : tie.Need-returns-2
 unfolding componentSums
 returns-2 c = let a = c .before .before .before .before .before .args in
-    let g : componentRange (a .dx) (a .dy) (a .n) ≡ false = sym (c .before .before .in-range .ensures) ∙ c .before .if1 .left in
+    let g : componentRange (a .dx) (a .dy) (a .n) ≡ false = sym (c .before .before .component-in-range .ensures) ∙ c .before .if1 .left in
     (rw g (c .none .ensures), keeps-none (now (a .kept)) _ (a .to) _ _ (ap (λ (s : Sums). s .good) (c .none .ensures)))
 
 pub component-spec : {M : Type 1} → statement M
 component-spec =
     tie.close
     (tie.spec
-    in-range-requires
+    component-in-range-requires
     of-requires
     of-requires-2
     resolutions-requires

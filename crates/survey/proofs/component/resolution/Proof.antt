@@ -1,31 +1,36 @@
 -- `resolution`: the exponents are tested before they are used, so that no shift and no product passes its width; the rest is what the callees promise.
 -- Assumes nothing.
-use Prim.Native.Nat.{_+_, _^_, _≤_, _<_}
+use Prim.Native.Nat.{_^_, _≤_, _<_}
+use Rattle.laws.specs.Cases.{and-true, not-true, not-false}
 use Rattle.laws.specs.Numbers.{product-fits}
-use Rattle.words.specs.Words.{wordAt}
+use Rattle.packets.specs.Sheet.{exponentRange}
 use denote.Ref.{now}
+use lib.Dec.{leb}
 use lib.ListN.{length-set}
-use mathlib.Core.Path.{ap}
+use mathlib.Core.Bool.{true}
+use mathlib.Core.Path.{_≡_, sym, ap, _∙_}
 use Rattle.survey.specs.declared.sums.Sums.{Sums}
 use native.Mathlib.Omega.{arith}
-use borrow.Author.Tests.{le-leb, lt-leb}
+use borrow.Author.Tests.{leb-true}
 use Rattle.survey.specs.Passing.{entrySums, entryFine}
 use Rattle.survey.proofs.Keeping.{put-four, keeps-none}
 use borrow.Author.Needs.{needs}
 use Rattle.survey.proofs.component.resolution.Statement.{statement}
 use Rattle.survey.proofs.component.resolution.Tie as tie
 
+-- behind the test: both exponents are at most 15
+module _ (c : tie.Else1) where
+  both : exponentRange (c .before .before .before .word-at .result) (c .before .before .word-at2 .result) ≡ true
+  both = sym (c .before .exponents-in-range .ensures) ∙ not-false _ (c .if1 .left)
+
+  low-x : c .before .before .before .word-at .result ≤ 15
+  low-x = leb-true _ _ (and-true (leb (c .before .before .before .word-at .result) 15) (leb (c .before .before .word-at2 .result) 15) both .0)
+
+  low-y : c .before .before .word-at2 .result ≤ 15
+  low-y = leb-true _ _ (and-true (leb (c .before .before .before .word-at .result) 15) (leb (c .before .before .word-at2 .result) 15) both .1)
+
 word-at-requires : tie.Need-word-at-requires
 word-at-requires c κs = search needs
-
-none-requires : tie.Need-none-requires
-none-requires c κs = search needs
-
-returns : tie.Need-returns
-unfolding entrySums entryFine
-returns c = let a = c .before .before .before .before .before .args in
-    let h : 15 < wordAt (now (a .e)) (a .at) = omega arith in
-    (rw (c .none .ensures, lt-leb _ _ h), keeps-none (now (a .kept)) _ (a .to) _ _ (ap (λ (s : Sums). s .good) (c .none .ensures)))
 
 add-word-at : tie.Need-add-word-at
 add-word-at c = search needs
@@ -33,21 +38,22 @@ add-word-at c = search needs
 word-at-requires-2 : tie.Need-word-at-requires-2
 word-at-requires-2 c κs = search needs
 
-none-requires-2 : tie.Need-none-requires-2
-none-requires-2 c κs = search needs
+exponents-in-range-requires : tie.Need-exponents-in-range-requires
+exponents-in-range-requires c κs = search needs
 
-returns-2 : tie.Need-returns-2
+none-requires : tie.Need-none-requires
+none-requires c κs = search needs
+
+returns : tie.Need-returns
 unfolding entrySums entryFine
-returns-2 c = let a = c .before .before .before .before .before .before .before .args in
-    let h : wordAt (now (a .e)) (a .at) ≤ 15 = omega arith in
-    let k : 15 < wordAt (now (a .e)) (a .at + 4) = omega arith in
-    (rw (c .none2 .ensures, le-leb _ _ h, lt-leb _ _ k), keeps-none (now (a .kept)) _ (a .to) _ _ (ap (λ (s : Sums). s .good) (c .none2 .ensures)))
+returns c = let a = c .before .before .before .before .before .before .before .args in
+    (rw (c .none .ensures, ← (c .before .before .before .before .word-at .ensures), ← (c .before .before .before .word-at2 .ensures), sym (c .before .before .exponents-in-range .ensures) ∙ not-true _ (c .before .if1 .taken)), keeps-none (now (a .kept)) _ (a .to) _ _ (ap (λ (s : Sums). s .good) (c .none .ensures)))
 
 count-requires : tie.Need-count-requires
-count-requires c κs = search needs
+count-requires c κs = let h = low-x c in (c .before .before .before .before .before .before .pre .1, omega (arith, h))
 
 count-requires-2 : tie.Need-count-requires-2
-count-requires-2 c κs = search needs
+count-requires-2 c κs = let h = low-y (c .before) in (c .before .before .before .before .before .before .before .pre .1, omega (arith, h))
 
 sizes-right-requires : tie.Need-sizes-right-requires
 sizes-right-requires c κs = search needs
@@ -86,16 +92,16 @@ slice-write-kept-4 : tie.Need-slice-write-kept-4
 slice-write-kept-4 c = simp length-set (omega (arith, c .before .before .before .before .before .before .before .before .before .before .pre .4))
 
 add-step : tie.Need-add-step
-add-step c = search needs
+add-step c = let h = low-x (c .before .before .before .before) in omega (arith, h, c .before .before .before .before .before .before .before .before .before .before .pre .1)
 
 step-requires : tie.Need-step-requires
-step-requires c κs = search needs
+step-requires c κs = let h = low-x (c .before .before .before .before) in (c .before .before .before .before .before .before .before .before .before .before .pre .2, omega (arith, h, c .before .before .before .before .before .before .before .before .before .before .pre .1))
 
 add-step-2 : tie.Need-add-step-2
-add-step-2 c = search needs
+add-step-2 c = let h = low-y (c .before .before .before .before .before) in omega (arith, h, c .before .before .before .before .before .before .before .before .before .before .before .pre .1)
 
 step-requires-2 : tie.Need-step-requires-2
-step-requires-2 c κs = search needs
+step-requires-2 c κs = let h = low-y (c .before .before .before .before .before) in (c .before .before .before .before .before .before .before .before .before .before .before .pre .3, omega (arith, h, c .before .before .before .before .before .before .before .before .before .before .before .pre .1))
 
 cast-larger : tie.Need-cast-larger
 cast-larger c = search needs
@@ -123,39 +129,34 @@ smaller-requires c κs = search needs
 smaller-requires-2 : tie.Need-smaller-requires-2
 smaller-requires-2 c κs = search needs
 
-none-requires-3 : tie.Need-none-requires-3
-none-requires-3 c κs = search needs
+none-requires-2 : tie.Need-none-requires-2
+none-requires-2 c κs = search needs
 
 same-length : tie.Need-same-length
 same-length c = search needs
 
+returns-2 : tie.Need-returns-2
+unfolding entrySums entryFine
+returns-2 c = let a = c .before .before .before .before .before .before .before .before .before .before .before .before .before .before .before .before .before .args in (
+  rw (← (c .before .before .before .before .before .before .before .before .before .before .before .before .before .before .word-at .ensures), ← (c .before .before .before .before .before .before .before .before .before .before .before .before .before .word-at2 .ensures), both (c .before .before .before .before .before .before .before .before .before .before .before), ← (c .before .before .before .before .before .before .before .before .before .before .count .ensures), ← (c .before .before .before .before .before .before .before .before .before .count2 .ensures), ← (c .before .before .before .before .before .before .before .before .sizes-right .ensures), c .before .before .before .before .before .before .before .if2 .taken, c .smaller2 .ensures, c .before .smaller .ensures, c .before .before .larger3 .ensures, c .before .before .before .larger2 .ensures, c .before .before .before .before .larger .ensures, c .before .before .before .before .before .step2 .ensures, c .before .before .before .before .before .before .step .ensures),
+  λ g. rw (← (c .before .before .before .before .before .before .before .before .before .before .before .before .before .before .word-at .ensures), ← (c .before .before .before .before .before .before .before .before .before .before .before .before .before .word-at2 .ensures), ← (c .before .before .before .before .before .before .before .before .before .before .count .ensures), ← (c .before .before .before .before .before .before .before .before .before .count2 .ensures)) (put-four (now (a .kept)) (a .to) _ _ _ _),
+)
+
 returns-3 : tie.Need-returns-3
 unfolding entrySums entryFine
-returns-3 c = let a = c .before .before .before .before .before .before .before .before .before .before .before .before .before .before .before .before .before .args in
-    let h : wordAt (now (a .e)) (a .at) ≤ 15 = omega arith in
-    let k : wordAt (now (a .e)) (a .at + 4) ≤ 15 = omega arith in (
-      rw (le-leb _ _ h, le-leb _ _ k, ← (c .before .before .before .before .before .before .before .before .before .before .before .before .before .before .word-at .ensures), ← (c .before .before .before .before .before .before .before .before .before .before .before .before .word-at2 .ensures), ← (c .before .before .before .before .before .before .before .before .before .before .count .ensures), ← (c .before .before .before .before .before .before .before .before .before .count2 .ensures), ← (c .before .before .before .before .before .before .before .before .sizes-right .ensures), c .before .before .before .before .before .before .before .if3 .taken, c .smaller2 .ensures, c .before .smaller .ensures, c .before .before .larger3 .ensures, c .before .before .before .larger2 .ensures, c .before .before .before .before .larger .ensures, c .before .before .before .before .before .step2 .ensures, c .before .before .before .before .before .before .step .ensures),
-      λ g. rw (← (c .before .before .before .before .before .before .before .before .before .before .before .before .before .before .word-at .ensures), ← (c .before .before .before .before .before .before .before .before .before .before .before .before .word-at2 .ensures), ← (c .before .before .before .before .before .before .before .before .before .before .count .ensures), ← (c .before .before .before .before .before .before .before .before .before .count2 .ensures)) (put-four (now (a .kept)) (a .to) _ _ _ _),
-    )
-
-returns-4 : tie.Need-returns-4
-unfolding entrySums entryFine
-returns-4 c = let a = c .before .before .before .before .before .before .before .before .before .before .before .args in
-    let h : wordAt (now (a .e)) (a .at) ≤ 15 = omega arith in
-    let k : wordAt (now (a .e)) (a .at + 4) ≤ 15 = omega arith in
-    (rw (c .none3 .ensures, le-leb _ _ h, le-leb _ _ k, ← (c .before .before .before .before .before .before .before .before .word-at .ensures), ← (c .before .before .before .before .before .before .word-at2 .ensures), ← (c .before .before .before .before .count .ensures), ← (c .before .before .before .count2 .ensures), ← (c .before .before .sizes-right .ensures), c .before .if3 .left), keeps-none (now (a .kept)) _ (a .to) _ _ (ap (λ (s : Sums). s .good) (c .none3 .ensures)))
+returns-3 c = let a = c .before .before .before .before .before .before .before .before .before .before .before .args in
+    (rw (c .none2 .ensures, ← (c .before .before .before .before .before .before .before .before .word-at .ensures), ← (c .before .before .before .before .before .before .before .word-at2 .ensures), both (c .before .before .before .before .before), ← (c .before .before .before .before .count .ensures), ← (c .before .before .before .count2 .ensures), ← (c .before .before .sizes-right .ensures), c .before .if2 .left), keeps-none (now (a .kept)) _ (a .to) _ _ (ap (λ (s : Sums). s .good) (c .none2 .ensures)))
 
 pub resolution-spec : {M : Type 1} → statement M
 resolution-spec =
     tie.close
     (tie.spec
     word-at-requires
-    none-requires
-    returns
     add-word-at
     word-at-requires-2
-    none-requires-2
-    returns-2
+    exponents-in-range-requires
+    none-requires
+    returns
     count-requires
     count-requires-2
     sizes-right-requires
@@ -182,7 +183,7 @@ resolution-spec =
     larger-requires-3
     smaller-requires
     smaller-requires-2
-    none-requires-3
+    none-requires-2
     same-length
-    returns-3
-    returns-4)
+    returns-2
+    returns-3)
