@@ -1,6 +1,10 @@
 -- Each public contract of this crate allows one answer only. Assumes nothing.
 use Rattle.laws.specs.Determined.{determined, determined-by, OneAnswer}
 use Rattle.geometry.specs.Said.{ofWord, word-apart, ofTile, tile-apart}
+use Rattle.geometry.proofs.ceiling.divided.Kinds as divided-kinds
+use Rattle.geometry.proofs.ceiling.divided.Reads as divided
+use Rattle.geometry.proofs.ceiling.shifted.Kinds as shifted-kinds
+use Rattle.geometry.proofs.ceiling.shifted.Reads as shifted
 use Rattle.geometry.proofs.math.uint_min.Kinds as uint-min-kinds
 use Rattle.geometry.proofs.math.uint_min.Reads as uint-min
 use Rattle.geometry.proofs.math.uint_max.Kinds as uint-max-kinds
@@ -25,6 +29,12 @@ use Rattle.geometry.proofs.precinct.resolution_bound.Kinds as resolutio
 use Rattle.geometry.proofs.precinct.resolution_bound.Reads as resolution-bound
 use Rattle.geometry.proofs.precinct.precincts.Kinds as precincts-kinds
 use Rattle.geometry.proofs.precinct.precincts.Reads as precincts
+
+pub divided-determined : OneAnswer divided-kinds.ps divided-kinds.r divided.Post
+divided-determined κs a r s e f = determined _ r s
+
+pub shifted-determined : OneAnswer shifted-kinds.ps shifted-kinds.r shifted.Post
+shifted-determined κs a r s e f = determined _ r s
 
 pub uint-min-determined : OneAnswer uint-min-kinds.ps uint-min-kinds.r uint-min.Post
 uint-min-determined κs a r s e f = determined _ r s

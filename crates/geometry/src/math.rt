@@ -1,4 +1,5 @@
 // The arithmetic of openjp2's math.rs, names without opj_. Where the Rust asserts or faults, the answer is a refusal.
+use crate::ceiling;
 ghost use mathlib.Core.Path.{_≡_};
 ghost use Prim.Native.Nat.{_*_, _%_, _^_, min, max};
 ghost use Rattle.geometry.specs.Said.{ofWord};
@@ -50,12 +51,7 @@ pub fn uint_ceildiv(a: u32, b: u32) -> Word
     if b == 0 {
         return Word::Refused;
     }
-    let q = a / b;
-    if a % b == 0 {
-        Word::Value(q)
-    } else {
-        Word::Value(q + 1)
-    }
+    Word::Value(ceiling::divided(a, b))
 }
 
 // a / b rounded up, modulo 2^32.
@@ -87,9 +83,7 @@ pub fn uint_ceildivpow2(a: u32, b: u32) -> Word
     ensures { λ r. ⌜ ofWord r ≡ ceildivpow2Of a b ⌝ }
 {
     if b < 64 {
-        let p = 1u64 << b;
-        let sum = (a as u64) + p - 1;
-        Word::Value((sum >> b) as u32)
+        Word::Value(ceiling::shifted(a, b))
     } else {
         Word::Refused
     }

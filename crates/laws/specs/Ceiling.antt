@@ -1,8 +1,8 @@
 -- The ceiling of a quotient, and its laws, by what lies below it. Assumes nothing.
-use mathlib.Core.Path.{_≡_, ap, _∙_}
+use mathlib.Core.Path.{_≡_, sym, ap, _∙_}
 use mathlib.Core.Logic.{⊎-elim}
-use Prim.Native.Nat.{ℕ, _+_, _-_, _*_, _/_, _%_, _≤_, _<_}
-use native.Mathlib.Nat.{suc-mul, add-mul, mul-assoc, mul-comm, le-div-iff-mul-le, div-eq-of-lt-le, div-add-mod', mod-lt, add-div-right, mul-pos, mul-mod-left, mul-div-cancel, le-mul-of-pos-right, div-mul-le-self}
+use Prim.Native.Nat.{ℕ, zero, suc, _+_, _-_, _*_, _/_, _%_, _≤_, _<_, min}
+use native.Mathlib.Nat.{suc-mul, add-mul, mul-assoc, mul-comm, le-div-iff-mul-le, div-zero, div-eq-of-lt, div-eq-of-lt-le, div-add-mod', mod-lt, add-div-right, mul-pos, mul-mod-left, mul-div-cancel, le-mul-of-pos-right, div-mul-le-self}
 use native.Mathlib.Omega.{arith}
 use Rattle.laws.specs.Cases.{le-or-lt}
 
@@ -41,6 +41,11 @@ module _ (b : ℕ) (pos : 1 ≤ b) where
   pub ceil-on : (a : ℕ) → a % b ≡ 0 → ceilDiv a b ≡ a / b
   ceil-on a h = div-eq-of-lt-le b (omega (arith, div-add-mod' a b)) (omega (arith, add-mul (a / b) 1 b, div-add-mod' a b))
 
+  -- of at most the divisor it is 1, or 0 of 0
+  pub ceil-one : (a : ℕ) → a ≤ b → ceilDiv a b ≡ min a 1
+  ceil-one zero h = div-eq-of-lt (omega arith)
+  ceil-one (suc a) h = let e : ceilDiv (suc a) b ≡ 1 = div-eq-of-lt-le {k = 1} b (omega arith) (omega arith) in omega arith
+
   pub ceil-times : (q : ℕ) → ceilDiv (q * b) b ≡ q
   ceil-times q = ceil-on (q * b) (mul-mod-left q b) ∙ mul-div-cancel q pos
 
@@ -62,3 +67,7 @@ ceil-small b pos a =
 -- of r0 ≤ r1 the floor of the first is at most the ceiling of the second
 pub floor-ceil : (b : ℕ) → 1 ≤ b → (r0 r1 : ℕ) → r0 ≤ r1 → r0 / b ≤ ceilDiv r1 b
 floor-ceil b pos r0 r1 h = le-div-iff-mul-le pos .1 (omega (arith, div-mul-le-self r0 b))
+
+-- by 0 it is 0
+pub ceil-none : (a : ℕ) → 0 ≡ ceilDiv a 0
+ceil-none a = sym (div-zero (a + 0 - 1))

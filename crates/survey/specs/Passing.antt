@@ -9,8 +9,6 @@ use Rattle.laws.specs.Below.{allBelow, maxBelow, minBelow}
 use Rattle.laws.specs.Ceiling.{ceilDiv}
 use Rattle.words.specs.Words.{wordAt}
 use Rattle.geometry.specs.Precinct.{pick, across}
-use Rattle.geometry.specs.declared.math.Word.{Word}
-use Rattle.geometry.specs.declared.math.Word.the-variants.{Value, Refused}
 use Rattle.geometry.specs.declared.tile.Area.{Area}
 use Rattle.packets.specs.Sheet.{exponentRange, componentRange}
 use Rattle.packets.specs.Orders.{Order, lrcp, rlcp, rpcl, pcrl, cprl, other, orderOf}
@@ -24,12 +22,7 @@ use Rattle.survey.specs.declared.sums.Sums.{Sums}
 use Rattle.survey.specs.declared.marks.Marks.{Marks}
 use Rattle.survey.specs.declared.places.Places.{Places}
 
--- AN AXIS. The number in an answer
-abbrev pub valueOf : Word → ℕ
-valueOf (Value n) = n
-valueOf Refused = 0
-
--- a component's axis, from the tile's bounds and its own step
+-- AN AXIS: a component's, from the tile's bounds and its own step
 abbrev pub axisOf : ℕ → ℕ → ℕ → Axis
 axisOf t0 t1 d = record { c0 = ceilDiv t0 d; c1 = ceilDiv t1 d; d = d }
 

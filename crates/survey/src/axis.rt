@@ -1,10 +1,8 @@
 // A component on one axis: its bounds, computed once, and from them the precincts and the step of each of its resolutions (01, 'Geometry').
-use geometry::math::Word;
-use geometry::precinct;
+use geometry::ceiling;
 ghost use mathlib.Core.Path.{_≡_};
-ghost use Prim.Native.Nat.{_*_, _^_, _≤_, _<_};
-ghost use Rattle.laws.specs.Ceiling.{ceilDiv};
-ghost use Rattle.survey.specs.Passing.{valueOf, axisOf, countOf};
+ghost use Prim.Native.Nat.{_*_, _^_, _<_};
+ghost use Rattle.survey.specs.Passing.{axisOf, countOf};
 
 pub(crate) struct Axis {
     // the bounds of the component
@@ -14,46 +12,26 @@ pub(crate) struct Axis {
     pub d: u32,
 }
 
-// The number in an answer that is no refusal.
-fn value(w: Word) -> u32
-    ensures { λ r. ⌜ r ≡ valueOf w ⌝ }
-{
-    match w {
-        Word::Value(n) => n,
-        Word::Refused => 0,
-    }
-}
-
-// n / 2^by, rounded up.
-fn bound(n: u32, by: u32) -> u32
-    requires { ⌜ by ≤ 32 ⌝ }
-    ensures { λ r. ⌜ r ≡ ceilDiv n (2 ^ by) ⌝ }
-{
-    let unit = 1u64 << by;
-    (((n as u64) + unit - 1) >> by) as u32
-}
-
 impl Axis {
     pub(crate) fn of(t0: u32, t1: u32, d: u32) -> Self
-        requires { ⌜ 0 < d ⌝ }
         ensures { λ r. ⌜ r ≡ axisOf t0 t1 d ⌝ }
     {
-        let c0 = value(precinct::component_bound(t0, d));
-        let c1 = value(precinct::component_bound(t1, d));
+        let c0 = ceiling::divided(t0, d);
+        let c1 = ceiling::divided(t1, d);
         Axis { c0, c1, d }
     }
 
     // The precincts of the resolution at this level whose exponent is pd.
     pub(crate) fn count(self, level: u32, pd: u32) -> u32
-        requires { ⌜ (level ≤ 32) × (pd < 32) ⌝ }
+        requires { ⌜ pd < 32 ⌝ }
         ensures { λ r. ⌜ r ≡ countOf self level pd ⌝ }
     {
-        let r0 = bound(self.c0, level);
-        let r1 = bound(self.c1, level);
+        let r0 = ceiling::shifted(self.c0, level);
+        let r1 = ceiling::shifted(self.c1, level);
         if r1 <= r0 {
             return 0;
         }
-        bound(r1, pd) - (r0 >> pd)
+        ceiling::shifted(r1, pd) - (r0 >> pd)
     }
 }
 

@@ -173,9 +173,7 @@ module _ (s : Sheet) (prep table : List ℕ) (base c n dx dy tx0 ty0 : ℕ) (h :
       record {
         room = omega (arith, h .levels, h .components);
         near = omega (arith, h .levels, h .near);
-        some-x = h .some-x;
         small-x = h .small-x;
-        some-y = h .some-y;
         small-y = h .small-y;
         levels = omega (arith, h .levels);
         exponent-x = rw (h .word-x r k) (h .exponent-x r k);

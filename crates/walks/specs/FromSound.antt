@@ -62,9 +62,7 @@ module _ (st : State) (table marks : List ℕ) (w : Sound st table marks) where
               step-y = refl;
               left = refl;
               top = refl;
-              some-x = k .dx .0;
               small-x = k .dx .1;
-              some-y = k .dy .0;
               small-y = k .dy .1;
               levels = k .resolutions .1;
               components = omega (arith, w .tile .components .1);

@@ -15,7 +15,6 @@ use Rattle.walks.specs.Prepared.{field, Entry}
 -- an axis that is prepared at place at: a component's step d, a level and an exponent in range
 pub record AxisIn (at d level pd : ℕ) : Type 0 where
   pub room : at + 4 < 3696
-  pub some : 1 ≤ d
   pub small : d ≤ 255
   pub levels : level ≤ 32
   pub exponents : pd ≤ 15
@@ -30,9 +29,7 @@ putAxis prep at t d level pd =
 pub record ResolutionIn (at : ℕ) (table : List ℕ) (from level dx dy : ℕ) : Type 0 where
   pub room : at + 6 < 3696
   pub near : from < 18446744073709551600
-  pub some-x : 1 ≤ dx
   pub small-x : dx ≤ 255
-  pub some-y : 1 ≤ dy
   pub small-y : dy ≤ 255
   pub levels : level ≤ 32
   pub exponent-x : wordAt table from ≤ 15
@@ -61,9 +58,7 @@ pub record Component (s : Sheet) (table : List ℕ) (base c n dx dy tx0 ty0 : �
   pub step-y : dy ≡ dyOf (s .st) c
   pub left : tx0 ≡ s .st .tx0
   pub top : ty0 ≡ s .st .ty0
-  pub some-x : 1 ≤ dx
   pub small-x : dx ≤ 255
-  pub some-y : 1 ≤ dy
   pub small-y : dy ≤ 255
   pub levels : n ≤ 33
   pub components : c < 16

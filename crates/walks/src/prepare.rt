@@ -1,4 +1,5 @@
 // The numbers that the walks by points need, prepared once for each component and resolution (specs Prepared).
+use geometry::ceiling;
 ghost use mathlib.Core.Path.{_≡_};
 ghost use Prim.Native.Nat.{_*_, _%_, _^_, _≤_};
 ghost use lib.Dec.{ltb, eqb};
@@ -6,24 +7,6 @@ ghost use lib.ListN.{length};
 ghost use Rattle.geometry.specs.Precinct.{pick};
 ghost use Rattle.laws.specs.Ceiling.{ceilDiv};
 ghost use Rattle.walks.specs.Prepare.{AxisIn, putAxis, ResolutionIn, putEntry, SomeComponent, Done, SomeComponents, AllDone};
-
-// A bound of the tile as a bound of a component.
-fn part(t: u32, d: u32) -> u32
-    requires { ⌜ (1 ≤ d) × (d ≤ 255) ⌝ }
-    ensures { λ r. ⌜ r ≡ ceilDiv t d ⌝ }
-{
-    let step = d as u64;
-    (((t as u64) + step - 1) / step) as u32
-}
-
-// A bound of a component as a bound of a resolution.
-pub(crate) fn bound(tc: u32, level: u32) -> u32
-    requires { ⌜ level ≤ 32 ⌝ }
-    ensures { λ r. ⌜ r ≡ ceilDiv tc (2 ^ level) ⌝ }
-{
-    let sample = 1u64 << level;
-    (((tc as u64) + sample - 1) >> level) as u32
-}
 
 // From a precinct to the next in points of the grid, where by is exponent and level together; modulo 2^32.
 pub(crate) fn step(d: u32, by: u32) -> u32
@@ -65,7 +48,7 @@ pub(crate) fn prepare_axis(
     requires { ⌜ AxisIn at d level pd × (tc ≡ ceilDiv t d) ⌝ }
     ensures { λ _. ⌜ now (prep .exit) ≡ putAxis (now (prep .entry)) at t d level pd ⌝ }
 {
-    let low = bound(tc, level);
+    let low = ceiling::shifted(tc, level);
     prep[at] = step(d, pd + level);
     prep[at + 2] = start(t, low, pd);
     prep[at + 4] = low >> pd;
@@ -112,8 +95,8 @@ pub(crate) fn prepare_component(
     requires { ⌜ (length (now prep) ≡ 3696) × SomeComponent (now table) base c n dx dy tx0 ty0 ⌝ }
     ensures { λ _. ⌜ Done (now (table .entry)) base c n dx dy tx0 ty0 (now (prep .entry)) (now (prep .exit)) n ⌝ }
 {
-    let tcx0 = part(tx0, dx);
-    let tcy0 = part(ty0, dy);
+    let tcx0 = ceiling::divided(tx0, dx);
+    let tcy0 = ceiling::divided(ty0, dy);
     let mut r: u32 = 0;
     'rs: while r < n {
         let i = r as usize;

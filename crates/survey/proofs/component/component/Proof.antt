@@ -1,4 +1,4 @@
--- `component`: the fields are tested before its axes are made; the places of 33 resolutions stay small. Assumes nothing.
+-- `component`: the fields are tested first; the places of 33 resolutions stay small. Assumes nothing.
 use Rattle.survey.proofs.Ranges.{in-range}
 use Rattle.survey.proofs.Keeping.{keeps-none}
 use Rattle.survey.specs.Passing.{componentSums}
@@ -18,10 +18,10 @@ component-in-range-requires : tie.Need-component-in-range-requires
 component-in-range-requires c κs = search needs
 
 of-requires : tie.Need-of-requires
-of-requires c κs = let a = c .before .before .before .before .args in in-range (a .dx) (a .dy) (a .n) (sym (c .before .component-in-range .ensures) ∙ c .if1 .taken) .dx-low
+of-requires c κs = search needs
 
 of-requires-2 : tie.Need-of-requires-2
-of-requires-2 c κs = let a = c .before .before .before .before .before .args in in-range (a .dx) (a .dy) (a .n) (sym (c .before .before .component-in-range .ensures) ∙ c .before .if1 .taken) .dy-low
+of-requires-2 c κs = search needs
 
 resolutions-requires : tie.Need-resolutions-requires
 resolutions-requires c κs = let a = c .before .before .before .before .before .before .before .args in

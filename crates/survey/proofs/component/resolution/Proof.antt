@@ -50,10 +50,10 @@ returns c = let a = c .before .before .before .before .before .before .before .a
     (rw (c .none .ensures, ← (c .before .before .before .before .word-at .ensures), ← (c .before .before .before .word-at2 .ensures), sym (c .before .before .exponents-in-range .ensures) ∙ not-true _ (c .before .if1 .taken)), keeps-none (now (a .kept)) _ (a .to) _ _ (ap (λ (s : Sums). s .good) (c .none .ensures)))
 
 count-requires : tie.Need-count-requires
-count-requires c κs = let h = low-x c in (c .before .before .before .before .before .before .pre .1, omega (arith, h))
+count-requires c κs = let h = low-x c in omega (arith, h)
 
 count-requires-2 : tie.Need-count-requires-2
-count-requires-2 c κs = let h = low-y (c .before) in (c .before .before .before .before .before .before .before .pre .1, omega (arith, h))
+count-requires-2 c κs = let h = low-y (c .before) in omega (arith, h)
 
 sizes-right-requires : tie.Need-sizes-right-requires
 sizes-right-requires c κs = search needs

@@ -5,8 +5,8 @@ use borrow.Author.Needs.{needs}
 use Rattle.walks.proofs.prepare.prepare_axis.Statement.{statement}
 use Rattle.walks.proofs.prepare.prepare_axis.Tie as tie
 
-bound-requires : tie.Need-bound-requires
-bound-requires c κs = search needs
+shifted-requires : tie.Need-shifted-requires
+shifted-requires c κs = search needs
 
 add-step : tie.Need-add-step
 add-step c = search needs
@@ -46,13 +46,13 @@ element-write-prep-3 c = search needs
 
 returns : tie.Need-returns
 unfolding putAxis boundOf
-returns c = rw (c .start .ensures, c .before .step .ensures, c .before .before .bound .ensures, c .before .before .before .pre .1)
+returns c = rw (c .start .ensures, c .before .step .ensures, c .before .before .shifted .ensures, c .before .before .before .pre .1)
 
 pub prepare-axis-spec : {M : Type 1} → statement M
 prepare-axis-spec =
     tie.close
     (tie.spec
-    bound-requires
+    shifted-requires
     add-step
     step-requires
     mul-prep

@@ -5,6 +5,7 @@ use Prim.Native.Nat.{_-_, _≤_}
 use mathlib.Core.Path.{_≡_, refl}
 use denote.Ref.{now}
 use native.Mathlib.Omega.{arith}
+use borrow.Author.Needs.{needs}
 use Rattle.walks.proofs.prepare.prepare_component.Statement.{statement}
 use Rattle.walks.proofs.prepare.prepare_component.Tie as tie
 
@@ -15,11 +16,11 @@ Inv-rs prep₀ table base c n dx dy tx0 ty0 tcx0 tcy0 r₀ prep r =
 abbrev μ-rs : tie.MeasureT-rs
 μ-rs prep₀ table base c n dx dy tx0 ty0 tcx0 tcy0 r₀ prep r = n - r
 
-part-requires : tie.Need-part-requires Inv-rs μ-rs
-part-requires c κs = let k = c .before .pre .1 .1 in (k .some-x, k .small-x)
+divided-requires : tie.Need-divided-requires Inv-rs μ-rs
+divided-requires c κs = search needs
 
-part-requires-2 : tie.Need-part-requires-2 Inv-rs μ-rs
-part-requires-2 c κs = let k = c .before .before .pre .1 .1 in (k .some-y, k .small-y)
+divided-requires-2 : tie.Need-divided-requires-2 Inv-rs μ-rs
+divided-requires-2 c κs = search needs
 
 rs-holds : tie.Need-rs-holds Inv-rs μ-rs
 rs-holds c = (omega arith, record { long = c .before .before .before .pre .0; kept = λ q i j p k f. refl; filled = λ s h q p. omega arith })
@@ -53,7 +54,7 @@ prepare-entry-requires c κs =
     let a = c .before .before .before .before .before .before .args in
     let w = c .before .before .before .before .before .before .pre in
     let i = c .before .before .rs in
-    (entry-in (w .1 .0) (i .prep) (now (a .table)) (a .base) (a .c) (a .n) (a .dx) (a .dy) (a .tx0) (a .ty0) (w .1 .1) (i .inv .1 .long) (i .r) (omega arith), (c .before .before .before .before .part .ensures, c .before .before .before .part2 .ensures))
+    (entry-in (w .1 .0) (i .prep) (now (a .table)) (a .base) (a .c) (a .n) (a .dx) (a .dy) (a .tx0) (a .ty0) (w .1 .1) (i .inv .1 .long) (i .r) (omega arith), (c .before .before .before .before .divided .ensures, c .before .before .before .divided2 .ensures))
 
 add-r : tie.Need-add-r Inv-rs μ-rs
 add-r c = omega arith
@@ -78,8 +79,8 @@ prepare-component-spec =
     (tie.spec
     Inv-rs
     μ-rs
-    part-requires
-    part-requires-2
+    divided-requires
+    divided-requires-2
     rs-holds
     cast-i
     mul-prepare-entry

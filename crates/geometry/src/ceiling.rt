@@ -1,0 +1,29 @@
+// Quotients rounded up, a number for every argument: for loops in which a refusal would be in the way.
+use crate::math::uint_min;
+ghost use mathlib.Core.Path.{_≡_};
+ghost use Prim.Native.Nat.{_^_};
+ghost use Rattle.laws.specs.Ceiling.{ceilDiv};
+
+// a / b rounded up; 0 for b = 0.
+pub fn divided(a: u32, b: u32) -> u32
+    ensures { λ r. ⌜ r ≡ ceilDiv a b ⌝ }
+{
+    if b == 0 {
+        return 0;
+    }
+    let q = a / b;
+    if a % b == 0 { q } else { q + 1 }
+}
+
+// a / 2^by rounded up.
+pub fn shifted(a: u32, by: u32) -> u32
+    ensures { λ r. ⌜ r ≡ ceilDiv a (2 ^ by) ⌝ }
+{
+    if by < 64 {
+        let unit = 1u64 << by;
+        let sum = (a as u64) + unit - 1;
+        (sum >> by) as u32
+    } else {
+        uint_min(a, 1)
+    }
+}
