@@ -123,16 +123,19 @@ static void check_pages(void)
     give_back(&ahead);
 }
 
-/* A SHEET and what the whole run leaves of it */
+/* A SHEET, and what a call on it is to leave */
 
 struct sheet {
     uint8_t bytes[(BONXIGARTH_MOST_RECORDS + 1) * BONXIGARTH_RECORD_BYTES];
     size_t length;
 };
 
+typedef int32_t on_sheet(const uint8_t *, size_t, uint8_t *, size_t, uint8_t *, size_t, uint8_t *, size_t);
+
 struct result {
+    on_sheet *call;
     int32_t answer;
-    size_t table_length, marks_length, output_length;   /* what is needed */
+    size_t table_length, marks_length, output_length;   /* what is needed, and written */
     const uint8_t *table, *marks, *output;              /* what is then there, or null where it is not compared */
 };
 
@@ -176,15 +179,15 @@ static void run(const struct sheet *sheet, const struct result *right, const str
     note(&table);
     note(&marks);
     note(&output);
-    answer = bonxigarth_whole_run(records.bytes, records.length, table.bytes, table.length,
-                                  marks.bytes, marks.length, output.bytes, output.length);
+    answer = right->call(records.bytes, records.length, table.bytes, table.length,
+                         marks.bytes, marks.length, output.bytes, output.length);
     if (answer != due)
         printf("guards: %s: answered %d, not %d\n", more->name, (int)answer, (int)due);
     check(answer == due, more->name, "the answer");
     check(only_changed(&records, 0), more->name, "the sheet is only read");
     check(only_changed(&table, refused ? 0 : right->table_length), more->name, "the table beyond what is needed");
     check(only_changed(&marks, refused ? 0 : right->marks_length), more->name, "the marks beyond what is needed");
-    check(only_changed(&output, refused ? 0 : (size_t)right->answer * BONXIGARTH_PACKET_BYTES), more->name, "the output beyond the packets");
+    check(only_changed(&output, refused ? 0 : right->output_length), more->name, "the output beyond what is written");
     if (!refused && answer == due) {
         check(right->table == NULL || starts_with(&table, right->table, right->table_length), more->name, "the table");
         check(right->marks == NULL || starts_with(&marks, right->marks, right->marks_length), more->name, "the marks");
@@ -236,7 +239,7 @@ static void check_sheet_a(void)
     };
     struct sheet sheet = {{0}, 0};
     uint8_t table[32], marks[8], output[128];
-    const struct result right = {8, sizeof table, sizeof marks, sizeof output, table, marks, output};
+    const struct result right = {bonxigarth_whole_run, 8, sizeof table, sizeof marks, sizeof output, table, marks, output};
 
     ADD(&sheet, 1, 0, 0, 64, 32, 2, 1, 1);
     ADD(&sheet, 2, 1, 1, 2);
@@ -261,7 +264,7 @@ static void check_empty_tile(void)
         {"an empty tile, all longer", 0, 5, 5, 5, 0},
     };
     static const uint8_t table[16] = {0, 0, 0, 4, 0, 0, 0, 4, 0, 0, 0, 0, 0, 0, 0, 1};
-    static const struct result right = {0, sizeof table, 0, 0, table, NULL, NULL};
+    static const struct result right = {bonxigarth_whole_run, 0, sizeof table, 0, 0, table, NULL, NULL};
     struct sheet sheet = {{0}, 0};
 
     ADD(&sheet, 1, 7, 0, 7, 16, 1, 1, 1);
@@ -282,7 +285,7 @@ static void check_most_packets(void)
     };
     static const struct lengths too_many = {"more than 65,536 packets", 0, 0, 0, 0, BONXIGARTH_TOO_MANY};
     static uint8_t marks[BONXIGARTH_MOST_MARKS], output[BONXIGARTH_MOST_OUTPUT];
-    struct result right = {BONXIGARTH_MOST_MARKS, 2 * 16, sizeof marks, sizeof output, NULL, marks, output};
+    struct result right = {bonxigarth_whole_run, BONXIGARTH_MOST_MARKS, 2 * 16, sizeof marks, sizeof output, NULL, marks, output};
 
     memset(marks, 1, sizeof marks);
     for (uint32_t i = 0; i < BONXIGARTH_MOST_MARKS; i++) {
@@ -317,7 +320,7 @@ static void check_longest_sheet(void)
         {"577 records, all longer", 0, 1, 1, 1, 0},
     };
     static uint8_t table[BONXIGARTH_MOST_TABLE], marks[528], output[528 * 16];
-    static const struct result right = {528, sizeof table, sizeof marks, sizeof output, table, marks, output};
+    static const struct result right = {bonxigarth_whole_run, 528, sizeof table, sizeof marks, sizeof output, table, marks, output};
     static struct sheet sheet;
 
     ADD(&sheet, 1, 0, 0, 1, 1, 1, 16, 32);
@@ -338,30 +341,26 @@ static void check_longest_sheet(void)
     run_all(&sheet, &right, cases, COUNT(cases));
 }
 
-/* SETUP: the table, the marks cleared, what is reported; a refusal leaves all as it was, and reports that are too short come before all else */
+/* Setup: the marks are cleared and the reports written; reports that are too short come before all else. */
 static void check_setup(void)
 {
-    static const struct {
-        const char *name;
-        size_t sheet, table, marks, reports;
-        int32_t answer;
-    } cases[] = {
-        {"setup, exactly", 160, 32, 16, 16, 0},
-        {"setup, all longer", 160, 40, 17, 20, 0},
-        {"setup, sheet a byte short", 159, 32, 16, 16, BONXIGARTH_BAD_LENGTH},
-        {"setup, sheet a record short", 128, 32, 16, 16, BONXIGARTH_BAD_SHAPE},
-        {"setup, marks a byte short", 160, 32, 15, 16, BONXIGARTH_SHORT_MARKS},
-        {"setup, table a byte short", 160, 31, 16, 16, BONXIGARTH_SHORT_TABLE},
-        {"setup, table and marks short", 160, 31, 15, 16, BONXIGARTH_SHORT_MARKS},
-        {"setup, reports a byte short", 160, 32, 16, 15, BONXIGARTH_SHORT_OUTPUT},
-        {"setup, no reports", 160, 32, 16, 0, BONXIGARTH_SHORT_OUTPUT},
-        {"setup, all short", 159, 31, 15, 15, BONXIGARTH_SHORT_OUTPUT},
+    static const struct lengths cases[] = {
+        {"setup, exactly", 0, 0, 0, 0, 0},
+        {"setup, all longer", 0, 8, 1, 4, 0},
+        {"setup, sheet a byte short", -1, 0, 0, 0, BONXIGARTH_BAD_LENGTH},
+        {"setup, sheet a record short", -32, 0, 0, 0, BONXIGARTH_BAD_SHAPE},
+        {"setup, marks a byte short", 0, 0, -1, 0, BONXIGARTH_SHORT_MARKS},
+        {"setup, table a byte short", 0, -1, 0, 0, BONXIGARTH_SHORT_TABLE},
+        {"setup, table and marks short", 0, -1, -1, 0, BONXIGARTH_SHORT_MARKS},
+        {"setup, reports a byte short", 0, 0, 0, -1, BONXIGARTH_SHORT_OUTPUT},
+        {"setup, no reports", 0, 0, 0, -16, BONXIGARTH_SHORT_OUTPUT},
+        {"setup, all short", -1, -1, -1, -1, BONXIGARTH_SHORT_OUTPUT},
     };
-    static const uint32_t table_words[8] = {4, 3, 2, 2, 5, 5, 2, 1};
-    static const uint8_t cleared[16];
-    static const uint8_t right[16] = {0, 0, 0, 4, 0, 0, 0, 2, 0, 0, 0, 32, 0, 0, 0, 16};
+    static const uint32_t table_words[8] = {4, 3, 2, 2, 5, 5, 2, 1}, report_words[4] = {4, 2, 32, 16};
+    static const uint8_t marks[16];
+    uint8_t table[32], reports[16];
+    const struct result right = {bonxigarth_setup, 0, sizeof table, sizeof marks, sizeof reports, table, marks, reports};
     struct sheet sheet = {{0}, 0};
-    uint8_t entries[32];
 
     ADD(&sheet, 1, 0, 0, 64, 32, 2, 1, 1);
     ADD(&sheet, 2, 1, 1, 2);
@@ -369,37 +368,10 @@ static void check_setup(void)
     ADD(&sheet, 3, 5, 5);
     ADD(&sheet, 5, 2);
     for (int i = 0; i < 8; i++)
-        put_word(entries + 4 * i, table_words[i]);
-    for (size_t i = 0; i < 2 * COUNT(cases); i++) {
-        size_t k = i / 2;
-        enum side side = i % 2 == 0 ? PAGE_BEHIND : PAGE_BEFORE;
-        struct lent records = lend(cases[k].sheet, side), table = lend(cases[k].table, side);
-        struct lent marks = lend(cases[k].marks, side), reports = lend(cases[k].reports, side);
-        int accepted = cases[k].answer == 0;
-        int32_t answer;
-
-        memcpy(records.bytes, sheet.bytes, records.length);
-        note(&records);
-        note(&table);
-        note(&marks);
-        note(&reports);
-        answer = bonxigarth_setup(records.bytes, records.length, table.bytes, table.length,
-                                  marks.bytes, marks.length, reports.bytes, reports.length);
-        check(answer == cases[k].answer, cases[k].name, "the answer");
-        check(only_changed(&records, 0), cases[k].name, "the sheet is only read");
-        check(only_changed(&table, accepted ? sizeof entries : 0), cases[k].name, "the table beyond what is needed");
-        check(only_changed(&marks, accepted ? sizeof cleared : 0), cases[k].name, "the marks beyond what is needed");
-        check(only_changed(&reports, accepted ? sizeof right : 0), cases[k].name, "the bytes beyond the reports");
-        if (answer == 0) {
-            check(starts_with(&table, entries, sizeof entries), cases[k].name, "the table");
-            check(starts_with(&marks, cleared, sizeof cleared), cases[k].name, "the marks");
-            check(starts_with(&reports, right, sizeof right), cases[k].name, "the reports");
-        }
-        give_back(&records);
-        give_back(&table);
-        give_back(&marks);
-        give_back(&reports);
-    }
+        put_word(table + 4 * i, table_words[i]);
+    for (int i = 0; i < 4; i++)
+        put_word(reports + 4 * i, report_words[i]);
+    run_all(&sheet, &right, cases, COUNT(cases));
 }
 
 /* TILE BOUNDS: tile 4 of a grid of 3 by 3, or a tile that there is none of */

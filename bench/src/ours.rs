@@ -48,16 +48,13 @@ mod exports {
     }
 }
 
-/// Runs a whole sheet and answers the number of packets written to `output`.
-pub fn whole_run(
-    sheet: &[u8],
-    table: &mut [u8],
-    marks: &mut [u8],
-    output: &mut [u8],
-) -> Result<usize, Refusal> {
+/// An export that is lent a sheet, a table, marks and an output.
+type OnSheet = unsafe extern "C" fn(*const u8, usize, *mut u8, usize, *mut u8, usize, *mut u8, usize) -> i32;
+
+fn call(export: OnSheet, sheet: &[u8], table: &mut [u8], marks: &mut [u8], output: &mut [u8]) -> i32 {
     // SAFETY: four slices with their own lengths; the three that are written are not shared.
-    let answer = unsafe {
-        exports::bonxigarth_whole_run(
+    unsafe {
+        export(
             sheet.as_ptr(),
             sheet.len(),
             table.as_mut_ptr(),
@@ -67,26 +64,23 @@ pub fn whole_run(
             output.as_mut_ptr(),
             output.len(),
         )
-    };
+    }
+}
+
+/// Runs a whole sheet and answers the number of packets written to `output`.
+pub fn whole_run(
+    sheet: &[u8],
+    table: &mut [u8],
+    marks: &mut [u8],
+    output: &mut [u8],
+) -> Result<usize, Refusal> {
+    let answer = call(exports::bonxigarth_whole_run, sheet, table, marks, output);
     usize::try_from(answer).map_err(|_| Refusal(answer))
 }
 
 /// Sets a sheet up and writes what setup reports, big-endian, to the first 16 bytes of `reports`.
 pub fn setup(sheet: &[u8], table: &mut [u8], marks: &mut [u8], reports: &mut [u8]) -> Result<(), Refusal> {
-    // SAFETY: four slices with their own lengths; the three that are written are not shared.
-    let answer = unsafe {
-        exports::bonxigarth_setup(
-            sheet.as_ptr(),
-            sheet.len(),
-            table.as_mut_ptr(),
-            table.len(),
-            marks.as_mut_ptr(),
-            marks.len(),
-            reports.as_mut_ptr(),
-            reports.len(),
-        )
-    };
-    done(answer)
+    done(call(exports::bonxigarth_setup, sheet, table, marks, reports))
 }
 
 /// Writes tx0, ty0, tx1 and ty1, big-endian, to the first 16 bytes of `output`.

@@ -1,6 +1,8 @@
 //! Ours against the model: answers, what is written, and that nothing else changes, with buffers of many
 //! lengths between guard bytes.
 
+use std::fmt::Debug;
+
 use oracle::bounds::Grid;
 
 use super::{same, same_list};
@@ -33,7 +35,7 @@ impl Buffer {
     fn expect(&self, what: &str, written: &[u8]) -> Result<(), String> {
         let mut expected = self.before.clone();
         expected[GUARD..GUARD + written.len()].copy_from_slice(written);
-        same_list(&format!("ours, {what} with {GUARD} guard bytes before"), &expected, &self.bytes)
+        same_list(&format!("{what} with {GUARD} guard bytes before"), &expected, &self.bytes)
     }
 }
 
@@ -61,48 +63,54 @@ pub fn other_lengths(random: &mut Random, needs: Lent) -> Lent {
     Lent { table: around(needs.table), marks: around(needs.marks), output: around(needs.output) }
 }
 
-/// A sheet with these lengths lent.
+/// A whole run with these lengths lent.
 pub fn run(bytes: &[u8], expected: &Result<Answer, i32>, lent: Lent) -> Result<(), String> {
-    let mut table = Buffer::new(lent.table, 0x5a);
-    let mut marks = Buffer::new(lent.marks, 0xc3);
-    let mut output = Buffer::new(lent.output, 0x96);
-    let answer = ours::whole_run(bytes, table.lent(), marks.lent(), output.lent());
-
-    let outcome = expected.as_ref().map_err(|&number| number);
-    let outcome = outcome.and_then(|answer| answer.fits(lent).map(|()| answer));
-    let count = outcome.map(|answer| answer.packets.len()).map_err(Refusal);
-    same(&format!("ours with {lent:?}"), &count, &answer)?;
-    let (words, needed, records) = match outcome {
-        Ok(answer) => (big_endian(&answer.table), answer.marks.clone(), big_endian(&answer.packets)),
-        Err(_) => Default::default(),
-    };
-    table.expect("table", &words)?;
-    marks.expect("marks", &needed)?;
-    output.expect("output", &records)
+    let due = accepted(expected, lent).map(|answer| {
+        let written = [big_endian(&answer.table), answer.marks.clone(), big_endian(&answer.packets)];
+        (answer.packets.len(), written)
+    });
+    call("our run", lent, due, |table, marks, output| ours::whole_run(bytes, table, marks, output))
 }
 
 /// Setup with these lengths lent, the output for what it reports.
 pub fn set_up(bytes: &[u8], expected: &Result<Answer, i32>, lent: Lent) -> Result<(), String> {
+    let due = match lent.output {
+        0..=15 => Err(-8),
+        _ => accepted(expected, Lent { output: usize::MAX, ..lent }).map(|answer| {
+            let cleared = vec![0; answer.marks.len()];
+            ((), [big_endian(&answer.table), cleared, big_endian(&[answer.reports.words()])])
+        }),
+    };
+    call("our setup", lent, due, |table, marks, reports| ours::setup(bytes, table, marks, reports))
+}
+
+/// What a sheet gives with these lengths lent, or the number of its refusal.
+fn accepted(expected: &Result<Answer, i32>, lent: Lent) -> Result<&Answer, i32> {
+    let answer = expected.as_ref().map_err(|&number| number)?;
+    answer.fits(lent).map(|()| answer)
+}
+
+/// One call with these lengths lent: what is due is its answer and what stands then at the start of table, marks
+/// and output, or a refusal's number, and then nothing has changed.
+fn call<T: Debug + PartialEq>(
+    what: &str,
+    lent: Lent,
+    due: Result<(T, [Vec<u8>; 3]), i32>,
+    ours: impl FnOnce(&mut [u8], &mut [u8], &mut [u8]) -> Result<T, Refusal>,
+) -> Result<(), String> {
     let mut table = Buffer::new(lent.table, 0x5a);
     let mut marks = Buffer::new(lent.marks, 0xc3);
-    let mut reports = Buffer::new(lent.output, 0x3c);
-    let answer = ours::setup(bytes, table.lent(), marks.lent(), reports.lent());
+    let mut output = Buffer::new(lent.output, 0x96);
+    let answer = ours(table.lent(), marks.lent(), output.lent());
 
-    let outcome = expected.as_ref().map_err(|&number| number);
-    let outcome = match lent.output {
-        0..=15 => Err(-8),
-        _ => outcome.and_then(|answer| answer.fits(Lent { output: usize::MAX, ..lent }).map(|()| answer)),
+    let (due, [words, marked, written]) = match due {
+        Ok((answer, written)) => (Ok(answer), written),
+        Err(number) => (Err(Refusal(number)), Default::default()),
     };
-    same(&format!("our setup with {lent:?}"), &outcome.map(|_| ()).map_err(Refusal), &answer)?;
-    let (words, cleared, reported) = match outcome {
-        Ok(answer) => {
-            (big_endian(&answer.table), vec![0; answer.marks.len()], big_endian(&[answer.reports.words()]))
-        }
-        Err(_) => Default::default(),
-    };
-    table.expect("table after setup", &words)?;
-    marks.expect("marks after setup", &cleared)?;
-    reports.expect("reports", &reported)
+    same(&format!("{what} with {lent:?}"), &due, &answer)?;
+    table.expect(&format!("table of {what}"), &words)?;
+    marks.expect(&format!("marks of {what}"), &marked)?;
+    output.expect(&format!("output of {what}"), &written)
 }
 
 /// Tile bounds with outputs of many lengths.
@@ -113,7 +121,7 @@ pub fn grid(grid: &Grid, expected: &Result<[u32; 4], i32>) -> Result<(), String>
         let outcome = expected.and_then(|bounds| if length < 16 { Err(-8) } else { Ok(bounds) });
         same(&format!("ours with {length} bytes"), &outcome.map(|_| ()).map_err(Refusal), &answer)?;
         let written = outcome.map_or(Vec::new(), |bounds| big_endian(&[bounds]));
-        output.expect("tile bounds", &written)?;
+        output.expect("our tile bounds", &written)?;
     }
     Ok(())
 }
