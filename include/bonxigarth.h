@@ -1,4 +1,4 @@
-/* bonxigarth.h: the packets of a JPEG 2000 tile in the order of its progressions, what a tile needs, and the bounds of a tile.
+/* bonxigarth.h: the packets of a JPEG 2000 tile in the order of its progressions, what setup reports of it, and the bounds of a tile.
  *
  * The library behind this header is proved to do what stands here. For all functions:
  *

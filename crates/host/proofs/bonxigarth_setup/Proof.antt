@@ -1,13 +1,14 @@
 -- `bonxigarth_setup`: the room for the reports is tested before anything is done; they are written where setup's number is 0. Assumes nothing.
 use denote.Ref.{now}
 use mathlib.Core.Path.{_∙_}
+use native.Mathlib.Omega.{arith}
 use Rattle.host.proofs.Reporting.{short, told, refused}
 use borrow.Author.Needs.{needs}
 use Rattle.host.proofs.bonxigarth_setup.Statement.{statement}
 use Rattle.host.proofs.bonxigarth_setup.Tie as tie
 
 returns : tie.Need-returns
-returns c = let a = c .before .before .before .before .before .args in short (now (a .sheet)) (now (a .table)) (now (a .marks)) (now (a .reports)) (c .if1 .taken)
+returns c = let a = c .before .before .before .before .before .args in short (now (a .sheet)) (now (a .table)) (now (a .marks)) (now (a .reports)) (omega (arith, c .if1 .taken))
 
 setup-requires : tie.Need-setup-requires
 setup-requires c κs = search needs

@@ -1,5 +1,6 @@
 -- `bonxigarth_tile_bounds`: -10, else -8, else the bounds written. Assumes nothing.
 use mathlib.Core.Path.{_∙_}
+use native.Mathlib.Omega.{arith}
 use Rattle.host.proofs.Bounding.{outside, short, told-all}
 use borrow.Author.Needs.{needs}
 use Rattle.host.proofs.bonxigarth_tile_bounds.Statement.{statement}
@@ -12,7 +13,7 @@ enum-known-a : tie.Need-enum-known-a
 enum-known-a c = search needs
 
 returns : tie.Need-returns
-returns c = let r = c .before .before .before .before .tile-bounds in short _ _ _ _ (r .result) (r .ensures) _ (c .before .before .a .given .1) (c .if1 .taken)
+returns c = let r = c .before .before .before .before .tile-bounds in short _ _ _ _ (r .result) (r .ensures) _ (c .before .before .a .given .1) (omega (arith, c .if1 .taken))
 
 put-four-requires : tie.Need-put-four-requires
 put-four-requires c κs = search needs
