@@ -2,13 +2,12 @@
 use mathlib.Core.Path.{_≡_, refl, sym, ap, _∙_}
 use mathlib.Core.List.{List, [], _∷_}
 use Prim.Native.Nat.{ℕ, _≤_, _<_}
-use native.Mathlib.Omega.{arith}
 use lib.ListN.{length}
 use lib.IntN.{ℤ, pos, negsuc}
 use borrow.Author.Tests.{le-leb, lt-leb}
 use Rattle.laws.specs.Gather.{gather}
-use Rattle.words.specs.Words.{putWord, wordsBytes, over}
-use Rattle.words.specs.Laws.{over-more}
+use Rattle.words.specs.Words.{putFour, wordsBytes, over}
+use Rattle.words.specs.Laws.{over-four}
 use Rattle.geometry.specs.Said.{Said, ofTile}
 use Rattle.geometry.specs.Tile.{tileBoundsOf}
 use Rattle.geometry.specs.declared.tile.Area.{Area}
@@ -17,16 +16,10 @@ use Rattle.geometry.specs.declared.tile.Tile.{Tile}
 use Rattle.geometry.specs.declared.tile.Tile.the-variants as tile
 use Rattle.packets.specs.Bounds.{Bounds, writtenBy, boundsOf}
 
--- four words, written one behind the other from the start on
-pub four-over : (old : List ℕ) (a b c d : ℕ) → 16 ≤ length old
-    → {s₁ s₂ s₃ s₄ : List ℕ} → s₁ ≡ putWord old 0 a → s₂ ≡ putWord s₁ 4 b → s₃ ≡ putWord s₂ 8 c → s₄ ≡ putWord s₃ 12 d
-    → s₄ ≡ over (wordsBytes (a ∷ b ∷ c ∷ d ∷ [])) old
+-- four words written at the start, where there is room
+pub four-over : (old : List ℕ) (a b c d : ℕ) → 16 ≤ length old → putFour old 0 a b c d ≡ over (wordsBytes (a ∷ b ∷ c ∷ d ∷ [])) old
 unfolding wordsBytes gather
-four-over old a b c d h e₁ e₂ e₃ e₄ =
-    let one = e₁ ∙ over-more [] old a (omega arith) in
-    let two = e₂ ∙ ap (λ (o : List ℕ). putWord o 4 b) one ∙ over-more (a ∷ []) old b (omega arith) in
-    let three = e₃ ∙ ap (λ (o : List ℕ). putWord o 8 c) two ∙ over-more (a ∷ b ∷ []) old c (omega arith) in
-    e₄ ∙ ap (λ (o : List ℕ). putWord o 12 d) three ∙ over-more (a ∷ b ∷ c ∷ []) old d (omega arith)
+four-over old a b c d h = over-four [] old a b c d h
 
 module _ (image : Area) (g : Grid) (n : ℕ) (output : List ℕ) where
   abbrev bounds : Bounds

@@ -2,12 +2,8 @@
 use geometry::tile::Area;
 use geometry::tile::Grid;
 use geometry::tile::Tile;
-use words::put_word;
+use words::put_four;
 ghost use mathlib.Core.Path.{_≡_};
-ghost use mathlib.Core.List.{[], _∷_};
-ghost use Prim.Native.Nat.{_≤_};
-ghost use lib.ListN.{length};
-ghost use Rattle.words.specs.Words.{wordsBytes, over};
 ghost use Rattle.packets.specs.Bounds.{boundsOf};
 ghost use Rattle.packets.specs.Calls.{wholeRunOf};
 ghost use Rattle.host.specs.Setup.{setupForC};
@@ -26,17 +22,6 @@ pub extern "C" fn bonxigarth_whole_run(
     ensures listed { λ _. ⌜ now (output .exit) ≡ wholeRunOf (now (sheet .entry)) (now (table .entry)) (now (marks .entry)) (now (output .entry)) .output ⌝ }
 {
     walks::whole::whole_run(sheet, table, marks, output)
-}
-
-// Four words, big-endian.
-fn put_four(output: &mut [u8], a: u32, b: u32, c: u32, d: u32)
-    requires { ⌜ 16 ≤ length (now output) ⌝ }
-    ensures { λ _. ⌜ now (output .exit) ≡ over (wordsBytes (a ∷ b ∷ c ∷ d ∷ [])) (now (output .entry)) ⌝ }
-{
-    put_word(output, 0, a);
-    put_word(output, 4, b);
-    put_word(output, 8, c);
-    put_word(output, 12, d);
 }
 
 // Sets a sheet up and writes what setup reports; answers 0, or -8 before all else, or -1 to -7, and nothing changes.
@@ -60,7 +45,7 @@ pub extern "C" fn bonxigarth_setup(
     let number = verdict.number();
     if number == 0 {
         let st = up.state;
-        put_four(reports, st.max_prec, st.max_res, st.dx_min, st.dy_min);
+        put_four(reports, 0, st.max_prec, st.max_res, st.dx_min, st.dy_min);
     }
     number
 }
@@ -98,7 +83,7 @@ pub extern "C" fn bonxigarth_tile_bounds(
             if output.len() < 16 {
                 return -8;
             }
-            put_four(output, a.x0, a.y0, a.x1, a.y1);
+            put_four(output, 0, a.x0, a.y0, a.x1, a.y1);
             0
         }
         Tile::Outside => -10,

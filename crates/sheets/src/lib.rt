@@ -54,14 +54,14 @@ pub fn setup_with_room(sheet: &[u8], table: &mut [u8], marks: &mut [u8], room: u
                 return refused(Verdict::Marks);
             }
             let resolutions = st.resolutions;
-            let words = 4 * table::entries(&resolutions, st.components as usize);
-            if table.len() < 4 * words {
+            let entries = table::entries(&resolutions, st.components as usize);
+            if table.len() < 16 * entries {
                 return refused(Verdict::Table);
             }
             if room < 16 * needed {
                 return refused(Verdict::Output);
             }
-            table::write(&kept, words, table);
+            table::write(&kept, entries, table);
             marks::clear(marks, needed);
             let state = reports::reported(st, found);
             return SetUp {

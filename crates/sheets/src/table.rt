@@ -19,14 +19,22 @@ pub(crate) fn entries(resolutions: &[u32; 16], n: usize) -> usize
     sum
 }
 
-// Lays the first n of some words over a lent table that has room for them.
+// Lays the words of n entries over a lent table that has room for them.
 pub(crate) fn write(words: &[u32], n: usize, table: &mut [u8])
-    requires { ⌜ (n ≤ length (now words)) × (4 * n ≤ length (now table)) × (n ≤ 2112) ⌝ }
-    ensures { λ _. ⌜ now (table .exit) ≡ over (wordsBytes (take n (now (words .entry)))) (now (table .entry)) ⌝ }
+    requires { ⌜ (4 * n ≤ length (now words)) × (16 * n ≤ length (now table)) × (n ≤ 528) ⌝ }
+    ensures { λ _. ⌜ now (table .exit) ≡ over (wordsBytes (take (4 * n) (now (words .entry)))) (now (table .entry)) ⌝ }
 {
     let mut i: usize = 0;
     while i < n {
-        words::put_word(table, 4 * i, words[i]);
+        let w = 4 * i;
+        words::put_four(
+            table,
+            16 * i,
+            words[w],
+            words[w + 1],
+            words[w + 2],
+            words[w + 3],
+        );
         i += 1;
     }
 }

@@ -5,7 +5,7 @@ use crate::walk::Walk;
 use crate::walk::index;
 use crate::walk::is_free;
 use packets::cursor::Position;
-use words::put_word;
+use words::put_four;
 ghost use mathlib.Core.Path.{_≡_};
 ghost use Prim.Native.Nat.{_*_, _<_, _≤_};
 ghost use lib.ListN.{length};
@@ -22,14 +22,14 @@ fn put_packet(output: &mut [u8], n: u32, p: Position)
     requires { ⌜ n ≤ 65536 ⌝ }
     ensures { λ _. ⌜ now (output .exit) ≡ putPacket (now (output .entry)) (16 * n) p ⌝ }
 {
-    let at = 16 * n as usize;
-    if output.len() < at + 16 {
-        return;
-    }
-    put_word(output, at, p.layno);
-    put_word(output, at + 4, p.resno);
-    put_word(output, at + 8, p.compno);
-    put_word(output, at + 12, p.precno);
+    put_four(
+        output,
+        16 * n as usize,
+        p.layno,
+        p.resno,
+        p.compno,
+        p.precno,
+    );
 }
 
 // Marks a packet and writes it as record n, unless it is marked; answers how many records there are then.

@@ -1,18 +1,18 @@
 -- Laws of big-endian words: what was written is read, one word more laid over a buffer, and what stands beyond. Assumes nothing.
-use mathlib.Core.Path.{_≡_, refl, sym, ap, _∙_}
+use mathlib.Core.Path.{_≡_, refl, ap, _∙_}
 use mathlib.Core.Logic.{⊎-elim}
 use mathlib.Core.List.{List, [], _∷_, _++_, append-assoc}
 use Prim.Native.Nat.{ℕ, zero, suc, _+_, _*_, _/_, _%_, _^_, _≤_, _<_}
 use native.Mathlib.Nat.{suc-add, add-assoc}
 use native.Mathlib.Numerals.{add-one}
 use native.Mathlib.Omega.{arith}
-use lib.ListN.{length, getD, set, drop, length-append, length-set, length-drop}
+use lib.ListN.{length, getD, set, drop, length-append, length-drop}
 use lib.Seq.{getD-append-add, drop-cons}
 use lib.Dec.{leb}
 use borrow.Author.Tests.{le-leb, lt-leb}
 use Rattle.laws.specs.Cases.{le-or-lt, split}
 use Rattle.laws.specs.Gather.{gather, gather-append}
-use Rattle.words.specs.Words.{wordAt, putWord, bytesOf, wordsBytes, over}
+use Rattle.words.specs.Words.{wordAt, putWord, putFour, bytesOf, wordsBytes, over}
 
 -- with room, and without
 module _ (s : List ℕ) (at : ℕ) where
@@ -105,9 +105,9 @@ four l n h =
     rw (one l n (omega arith), one l (n + 1) (omega arith), two, one l (n + 2) (omega arith), three, one l (n + 3) (omega arith), last)
 
 -- a word written where four bytes stand
-put-four : (a b c d : ℕ) (rest : List ℕ) (w : ℕ) → putWord (a ∷ b ∷ c ∷ d ∷ rest) 0 w ≡ bytesOf w ++ rest
+put-first : (a b c d : ℕ) (rest : List ℕ) (w : ℕ) → putWord (a ∷ b ∷ c ∷ d ∷ rest) 0 w ≡ bytesOf w ++ rest
 unfolding putWord
-put-four a b c d rest w =
+put-first a b c d rest w =
     let room : 0 + 4 ≤ length (a ∷ b ∷ c ∷ d ∷ rest) = omega arith in
     rw (le-leb _ _ room)
 
@@ -124,7 +124,37 @@ over-more ws old w h =
     let at : 4 * length ws ≡ length new + 0 = omega arith in
     let room : length new + 4 ≤ length old = omega arith in
     let laid : length (new ++ bytesOf w) ≡ length new + 4 = rw (length-append new (bytesOf w)) refl in
-    rw (words-more ws w, at, put-behind new (drop (length new) old) 0 w, four old (length new) room, put-four, laid, append-assoc new (bytesOf w) (drop (length new + 4) old))
+    rw (words-more ws w, at, put-behind new (drop (length new) old) 0 w, four old (length new) room, put-first, laid, append-assoc new (bytesOf w) (drop (length new + 4) old))
+
+-- and so are four
+pub over-four : (ws old : List ℕ) (a b c d : ℕ) → 4 * length ws + 16 ≤ length old
+    → putFour (over (wordsBytes ws) old) (4 * length ws) a b c d ≡ over (wordsBytes (ws ++ (a ∷ b ∷ c ∷ d ∷ []))) old
+unfolding putFour
+over-four ws old a b c d h =
+    let one : List ℕ = ws ++ (a ∷ []) in
+    let two : List ℕ = one ++ (b ∷ []) in
+    let three : List ℕ = two ++ (c ∷ []) in
+    let n1 : length one ≡ length ws + 1 = length-append ws (a ∷ []) in
+    let n2 : length two ≡ length one + 1 = length-append one (b ∷ []) in
+    let n3 : length three ≡ length two + 1 = length-append two (c ∷ []) in
+    let a1 : 4 * length ws + 4 ≡ 4 * length one = omega arith in
+    let a2 : 4 * length ws + 8 ≡ 4 * length two = omega arith in
+    let a3 : 4 * length ws + 12 ≡ 4 * length three = omega arith in
+    let all : three ++ (d ∷ []) ≡ ws ++ (a ∷ b ∷ c ∷ d ∷ []) = simp append-assoc in
+    let long : length (over (wordsBytes ws) old) ≡ length old = over-length (wordsBytes ws) old (omega (arith, bytes-length ws)) in
+    let room : 4 * length ws + 16 ≤ length (over (wordsBytes ws) old) = omega arith in
+    rw (le-leb _ _ room, a1, a2, a3, over-more ws old a (omega arith), over-more one old b (omega arith), over-more two old c (omega arith), over-more three old d (omega arith), all)
+
+-- four words written one after the other, where there is room, and else nothing
+module _ (s : List ℕ) (at a b c d : ℕ) where
+  pub four-put : {s₁ s₂ s₃ s₄ : List ℕ} → at + 16 ≤ length s → s₁ ≡ putWord s at a → s₂ ≡ putWord s₁ (at + 4) b → s₃ ≡ putWord s₂ (at + 8) c → s₄ ≡ putWord s₃ (at + 12) d
+      → s₄ ≡ putFour s at a b c d
+  unfolding putFour
+  four-put room e₁ e₂ e₃ e₄ = rw (le-leb _ _ room, e₄, e₃, e₂, e₁)
+
+  pub four-none : length s < at + 16 → s ≡ putFour s at a b c d
+  unfolding putFour
+  four-none short = rw (lt-leb _ _ short)
 
 -- bytes are below 256
 abbrev pub Bytes : List ℕ → Type 0

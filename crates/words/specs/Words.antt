@@ -28,6 +28,10 @@ putWord s at w =
     (set (set (set (set s at (w / 2 ^ 24)) (at + 1) (w / 2 ^ 16 % 2 ^ 8)) (at + 2) (w / 2 ^ 8 % 2 ^ 8)) (at + 3) (w % 2 ^ 8))
     s
 
+-- s with four words from place at on; s itself where there is no room for all of them
+unfoldable pub putFour : List ℕ → ℕ → ℕ → ℕ → ℕ → ℕ → List ℕ
+putFour s at a b c d = pickList (leb (at + 16) (length s)) (putWord (putWord (putWord (putWord s at a) (at + 4) b) (at + 8) c) (at + 12) d) s
+
 -- the four bytes of a word
 abbrev pub bytesOf : ℕ → List ℕ
 bytesOf w = w / 2 ^ 24 ∷ w / 2 ^ 16 % 2 ^ 8 ∷ w / 2 ^ 8 % 2 ^ 8 ∷ w % 2 ^ 8 ∷ []

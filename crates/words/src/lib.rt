@@ -1,7 +1,8 @@
-// Big-endian 32-bit words in lent bytes. Both functions are total: where the four bytes are not all there, a word is read as 0 and nothing is written.
+// Big-endian 32-bit words in lent bytes. The functions are total: where the bytes are not all there, a word is read as 0 and nothing is written.
 ghost use mathlib.Core.Path.{_≡_};
-ghost use Prim.Native.Nat.{_/_, _%_, _^_, _<_};
-ghost use Rattle.words.specs.Words.{wordAt, putWord};
+ghost use Prim.Native.Nat.{_+_, _/_, _%_, _^_, _≤_, _<_};
+ghost use lib.ListN.{length};
+ghost use Rattle.words.specs.Words.{wordAt, putWord, putFour};
 
 fn wide(b: u8) -> u32
     ensures { λ r. ⌜ (r ≡ b) × (r < 256) ⌝ }
@@ -32,6 +33,18 @@ fn swapped(w: u32) -> u32
     w % 256 * 0x100_0000 + w / 0x100 % 256 * 0x1_0000 + w / 0x1_0000 % 256 * 0x100 + w / 0x100_0000
 }
 
+// Writes a word's four bytes from place at on, where there is room for them.
+fn lay(s: &mut [u8], at: usize, w: u32)
+    requires { ⌜ at + 4 ≤ length (now s) ⌝ }
+    ensures { λ _. ⌜ now (s .exit) ≡ putWord (now (s .entry)) at w ⌝ }
+{
+    let v = swapped(w);
+    s[at] = (v % 256) as u8;
+    s[at + 1] = (v / 0x100 % 256) as u8;
+    s[at + 2] = (v / 0x1_0000 % 256) as u8;
+    s[at + 3] = (v / 0x100_0000) as u8;
+}
+
 // Writes a word's four bytes from place at on.
 pub fn put_word(s: &mut [u8], at: usize, w: u32)
     ensures { λ _. ⌜ now (s .exit) ≡ putWord (now (s .entry)) at w ⌝ }
@@ -42,9 +55,21 @@ pub fn put_word(s: &mut [u8], at: usize, w: u32)
     if s.len() - 4 < at {
         return;
     }
-    let v = swapped(w);
-    s[at] = (v % 256) as u8;
-    s[at + 1] = (v / 0x100 % 256) as u8;
-    s[at + 2] = (v / 0x1_0000 % 256) as u8;
-    s[at + 3] = (v / 0x100_0000) as u8;
+    lay(s, at, w);
+}
+
+// Writes four words from place at on, with one test of the room for all of them.
+pub fn put_four(s: &mut [u8], at: usize, a: u32, b: u32, c: u32, d: u32)
+    ensures { λ _. ⌜ now (s .exit) ≡ putFour (now (s .entry)) at a b c d ⌝ }
+{
+    if s.len() < 16 {
+        return;
+    }
+    if s.len() - 16 < at {
+        return;
+    }
+    lay(s, at, a);
+    lay(s, at + 4, b);
+    lay(s, at + 8, c);
+    lay(s, at + 12, d);
 }

@@ -2,6 +2,9 @@
 use denote.Ref.{now}
 use mathlib.Core.Path.{_∙_}
 use native.Mathlib.Omega.{arith}
+use Prim.Native.Nat.{_≤_}
+use lib.ListN.{length}
+use Rattle.host.proofs.Bounding.{four-over}
 use Rattle.host.proofs.Reporting.{short, told, refused}
 use borrow.Author.Needs.{needs}
 use Rattle.host.proofs.bonxigarth_setup.Statement.{statement}
@@ -30,10 +33,11 @@ same-length-3 c = search needs
 
 returns-2 : tie.Need-returns-2
 returns-2 c = let a = c .before .before .before .before .before .before .before .before .before .before .before .before .before .before .before .before .before .before .before .args in
+    let room : 16 ≤ length (now (a .reports)) = omega (arith, c .before .before .before .before .before .before .before .before .before .before .before .before .before .before .if1 .left) in
     let up = c .before .before .before .before .before .before .before .before .before .before .before .setup in
     let n = c .before .before .before .before .before .before .number in
-    let l = told (now (a .sheet)) (now (a .table)) (now (a .marks)) (now (a .reports)) (up .result) (up .ensures .0) (up .ensures .1 .0) (up .ensures .1 .1) (n .result) (n .ensures) (search needs) (c .before .before .before .before .before .before .before .before .before .before .before .before .before .before .if1 .left) (c .before .before .before .before .before .if2 .taken) in
-    (l .0, (l .1 .0, (l .1 .1 .0, c .before .before .put-four .ensures ∙ l .1 .1 .1)))
+    let l = told (now (a .sheet)) (now (a .table)) (now (a .marks)) (now (a .reports)) (up .result) (up .ensures .0) (up .ensures .1 .0) (up .ensures .1 .1) (n .result) (n .ensures) (search needs) room (c .before .before .before .before .before .if2 .taken) in
+    (l .0, (l .1 .0, (l .1 .1 .0, c .before .before .put-four .ensures ∙ four-over (now (a .reports)) _ _ _ _ room ∙ l .1 .1 .1)))
 
 same-length-4 : tie.Need-same-length-4
 same-length-4 c = search needs
@@ -45,7 +49,7 @@ returns-3 : tie.Need-returns-3
 returns-3 c = let a = c .before .before .before .before .before .before .before .before .before .before .before .before .before .before .args in
     let up = c .before .before .before .before .before .before .setup in
     let n = c .before .number in
-    let l = refused (now (a .sheet)) (now (a .table)) (now (a .marks)) (now (a .reports)) (up .result) (up .ensures .0) (up .ensures .1 .0) (up .ensures .1 .1) (n .result) (n .ensures) (search needs) (c .before .before .before .before .before .before .before .before .before .if1 .left) (c .if2 .left) in
+    let l = refused (now (a .sheet)) (now (a .table)) (now (a .marks)) (now (a .reports)) (up .result) (up .ensures .0) (up .ensures .1 .0) (up .ensures .1 .1) (n .result) (n .ensures) (search needs) (omega (arith, c .before .before .before .before .before .before .before .before .before .if1 .left)) (c .if2 .left) in
     l
 
 pub bonxigarth-setup-spec : {M : Type 1} → statement M

@@ -65,9 +65,6 @@ entries-requires c κs = let z = c .before .before .before .before .before .befo
     let f = fields-good (seen (c .before .before .before .before .before .before .before .before)) (now (z .args .table)) (now (z .args .marks)) (z .args .room) in
     (few-components st f, few-levels st f)
 
-mul-words : tie.Need-mul-words
-mul-words c = search needs
-
 mul-if5 : tie.Need-mul-if5
 mul-if5 c = search needs
 
@@ -147,7 +144,6 @@ setup-with-room-spec =
     returns-2
     cast-entries
     entries-requires
-    mul-words
     mul-if5
     refused-requires-2
     returns-3

@@ -1,8 +1,7 @@
--- `put_word`: the writes are those of the definition, in order; without room there are none. Assumes nothing.
+-- `put_word`: without room nothing is written. Assumes nothing.
 use denote.Ref.{now}
 use mathlib.Core.Path.{sym}
-use Rattle.words.specs.Laws.{put-room, put-none}
-use lib.ListN.{length-set}
+use Rattle.words.specs.Laws.{put-none}
 use native.Mathlib.Omega.{arith}
 use borrow.Author.Needs.{needs}
 use Rattle.words.proofs.put_word.Statement.{statement}
@@ -17,66 +16,14 @@ sub-if2 c = search needs
 returns-2 : tie.Need-returns-2
 returns-2 c = let a = c .before .before .before .args in sym (put-none (now (a .s)) (a .at) (a .w) (omega arith))
 
-swapped-requires : tie.Need-swapped-requires
-swapped-requires c κs = search needs
-
-cast-s : tie.Need-cast-s
-cast-s c = search needs
-
-slice-write-s : tie.Need-slice-write-s
-slice-write-s c = search needs
-
-cast-s-2 : tie.Need-cast-s-2
-cast-s-2 c = search needs
-
-add-s : tie.Need-add-s
-add-s c = search needs
-
-slice-write-s-2 : tie.Need-slice-write-s-2
-slice-write-s-2 c = simp length-set (omega arith)
-
-cast-s-3 : tie.Need-cast-s-3
-cast-s-3 c = search needs
-
-add-s-2 : tie.Need-add-s-2
-add-s-2 c = search needs
-
-slice-write-s-3 : tie.Need-slice-write-s-3
-slice-write-s-3 c = simp length-set (omega arith)
-
-cast-s-4 : tie.Need-cast-s-4
-cast-s-4 c = search needs
-
-add-s-3 : tie.Need-add-s-3
-add-s-3 c = search needs
-
-slice-write-s-4 : tie.Need-slice-write-s-4
-slice-write-s-4 c = simp length-set (omega arith)
+lay-requires : tie.Need-lay-requires
+lay-requires c κs = search needs
 
 same-length : tie.Need-same-length
 same-length c = search needs
 
 returns-3 : tie.Need-returns-3
-returns-3 c = let a = c .before .before .before .before .args in let e = c .swapped .ensures in rw (e .0, e .1 .0, e .1 .1 .0, e .1 .1 .1) (sym (put-room (now (a .s)) (a .at) (a .w) (omega arith)))
+returns-3 c = search needs
 
 pub put-word-spec : {M : Type 1} → statement M
-put-word-spec =
-    tie.close
-    (tie.spec
-    returns
-    sub-if2
-    returns-2
-    swapped-requires
-    cast-s
-    slice-write-s
-    cast-s-2
-    add-s
-    slice-write-s-2
-    cast-s-3
-    add-s-2
-    slice-write-s-3
-    cast-s-4
-    add-s-3
-    slice-write-s-4
-    same-length
-    returns-3)
+put-word-spec = tie.close (tie.spec returns sub-if2 returns-2 lay-requires same-length returns-3)
