@@ -1,5 +1,5 @@
 # The commands of the README.
-.PHONY: test check mutants differential fuzz bench slow vectors list host archive install fmt clean
+.PHONY: test check mutants differential fuzz bench slow vectors list host archive native install fmt clean
 
 SHEET ?= sheets/a
 PREFIX ?= /usr/local
@@ -7,6 +7,7 @@ C_FLAGS = -std=c11 -Wall -Wextra -Wpedantic -Werror -O2 -Iinclude
 CRATES := crates.txt $(shell find crates -type f ! -path '*/must-fail/*' ! -path '*/mutants/*')
 LISTING = target/bin/listing
 ARCHIVE = target/staticlib/libhost.a
+NATIVE = target/native/libhost.a
 
 # Every proof, must-fail edit and test, from nothing.
 test:
@@ -21,20 +22,20 @@ mutants:
 	tools/mutants
 
 # The Rust, unchanged from ../shared/docs/src, beside a model written from document 01 and our archive: optimised, then with overflow checks.
-differential: $(ARCHIVE)
+differential: $(NATIVE)
 	tools/bench differential --sheets 1000000 --bounds 10000000
 	tools/bench --checked differential --sheets 100000 --bounds 1000000
 
 # Random and mutated bytes through the archive, in buffers of many lengths between guard bytes.
-fuzz: $(ARCHIVE)
+fuzz: $(NATIVE)
 	tools/bench fuzz
 
 # Time and instructions of a whole run beside the Rust's; then sheets with few packets and a huge grid, and a search for more.
-bench: $(ARCHIVE)
+bench: $(NATIVE)
 	tools/bench bench
 	tools/bench instructions
 
-slow: $(ARCHIVE)
+slow: $(NATIVE)
 	tools/bench slow --limit 60 --search 5000
 
 # The stored answers that the program crates/vectors replays: the Rust's and the model's.
@@ -47,6 +48,9 @@ list: $(LISTING)
 
 # The archive for C, target/staticlib/libhost.a.
 archive: $(ARCHIVE)
+
+# The archive that the bench links, target/native/libhost.a: on Arm it has code for Arm.
+native: $(NATIVE)
 
 # The C host of examples/host, as target/c/host.
 host: target/c/host
@@ -66,6 +70,9 @@ $(LISTING): $(CRATES)
 $(ARCHIVE): $(CRATES)
 	@rt staticlib host >&2
 	@touch $@
+
+$(NATIVE): tools/native-archive $(CRATES)
+	@tools/native-archive >&2
 
 target/c/host: examples/host/host.c include/bonxigarth.h $(ARCHIVE)
 	@mkdir -p target/c

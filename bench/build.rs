@@ -41,11 +41,11 @@ fn name_sources(repository: &Path) {
 /// Tells the linker of the static archive with `bonxigarth_whole_run` and `bonxigarth_tile_bounds`.
 fn link_archive(repository: &Path) {
     println!("cargo:rerun-if-env-changed=BONXIGARTH_LIB");
-    let archive = from_environment("BONXIGARTH_LIB", &repository.join("target/staticlib/libhost.a"));
+    let archive = from_environment("BONXIGARTH_LIB", &repository.join("target/native/libhost.a"));
     let Ok(archive) = archive.canonicalize() else {
         fail(&format!(
             "our archive is not there: {} is missing.\n\
-             Build it (rt staticlib host) or give its path as BONXIGARTH_LIB.",
+             Build it (make native) or give its path as BONXIGARTH_LIB.",
             archive.display()
         ));
     };

@@ -18,9 +18,9 @@ pub enum Ended {
 
 pub fn run(arguments: &[&str], input: &str, limit: Duration) -> Result<Ended, String> {
     let told = |error: std::io::Error| format!("cannot run a child: {error}");
+    let program = std::env::current_exe().map_err(told)?;
     let start = Instant::now();
-    let mut child = this_program()
-        .map_err(told)?
+    let mut child = Command::new(program)
         .args(arguments)
         .stdin(Stdio::piped())
         .stdout(Stdio::piped())
@@ -44,17 +44,4 @@ pub fn run(arguments: &[&str], input: &str, limit: Duration) -> Result<Ended, St
     child.stdout.unwrap().read_to_string(&mut output).map_err(told)?;
     child.stderr.unwrap().read_to_string(&mut errors).map_err(told)?;
     Ok(if status.success() { Ended::Answered { output, time } } else { Ended::Failed(output + &errors) })
-}
-
-/// This program, by the emulator where one runs it (tools/bench).
-fn this_program() -> std::io::Result<Command> {
-    let program = std::env::current_exe()?;
-    Ok(match std::env::var_os("BONXIGARTH_RUNNER") {
-        Some(runner) => {
-            let mut command = Command::new(runner);
-            command.arg(program);
-            command
-        }
-        None => Command::new(program),
-    })
 }
