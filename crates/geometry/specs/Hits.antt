@@ -2,7 +2,7 @@
 -- and the next hit behind a point is at the next multiple of the step. Assumes nothing.
 use mathlib.Core.Path.{_≡_, refl, sym, ap, _∙_}
 use mathlib.Core.Bool.{Bool, true, false, not, _&&_}
-use mathlib.Core.List.{List, [], map}
+use mathlib.Core.List.{[], map}
 use mathlib.Core.Logic.{⊎-elim}
 use Prim.Native.Nat.{ℕ, zero, suc, _+_, _-_, _*_, _/_, _%_, _^_, max, _≤_, _<_}
 use native.Mathlib.Nat.{mul-assoc, mul-comm, mul-pos, mul-div-cancel, mul-mod-left, zero-mul, mul-zero, le-mul-of-pos-right, div-mul-le-self, mod-eq-zero-of-dvd, dvd-of-mod-eq-zero, dvd-trans}

@@ -1,7 +1,7 @@
 -- An axis of a tile as a resolution of a component sees it: its bounds, its precincts, and the points at which they are met.
 use mathlib.Core.Bool.{Bool, not, _&&_, _||_}
 use mathlib.Core.List.{List}
-use Prim.Native.Nat.{ℕ, _+_, _-_, _*_, _/_, _%_, _^_, max}
+use Prim.Native.Nat.{ℕ, _+_, _-_, _*_, _/_, _%_, _^_}
 use lib.Dec.{eqb}
 use Rattle.laws.specs.Ceiling.{ceilDiv}
 use Rattle.laws.specs.Gather.{keep}

@@ -1,12 +1,11 @@
 -- What an answer says in document 01's terms ('Numbers that come back'): a number, and the values that come with it.
 use Prim.Native.Nat.{ℕ, _-_}
 use mathlib.Core.Path.{_≡_, refl, sym, ap, _∙_}
-use mathlib.Core.Bool.{Bool, true, false}
+use mathlib.Core.Bool.{Bool, true, false, cond}
 use mathlib.Core.List.{List, [], _∷_, cons≢nil, head-eq-of-cons-eq, tail-eq-of-cons-eq}
 use lib.IntN.{ℤ, pos, negsuc}
 use Rattle.geometry.specs.declared.math.Word.{Word}
 use Rattle.geometry.specs.declared.math.Word.the-variants.{Value, Refused}
-use Rattle.geometry.specs.declared.tile.Area.{Area}
 use Rattle.geometry.specs.declared.tile.Tile.{Tile}
 use Rattle.geometry.specs.declared.tile.Tile.the-variants.{Bounds, Outside}
 
@@ -23,9 +22,6 @@ abbrev pub refusal : ℕ → Said
 refusal n = record { number = negsuc (n - 1); values = [] }
 
 -- one of two, by a test
-abbrev pub pickSaid : Bool → Said → Said → Said
-pickSaid true a b = a
-pickSaid false a b = b
 
 -- arithmetic: a value, or -22
 abbrev pub ofWord : Word → Said
@@ -39,17 +35,17 @@ ofTile Outside = refusal 10
 
 -- what is said of a test that chooses between a value and -22, read off a case of the answer
 module _ (t : Bool) (n : ℕ) where
-  pub word-value : (w : Word) (x : ℕ) → w ≡ Value x → ofWord w ≡ pickSaid t (value (n ∷ [])) (refusal 22) → (t ≡ true) × (x ≡ n)
+  pub word-value : (w : Word) (x : ℕ) → w ≡ Value x → ofWord w ≡ cond t (value (n ∷ [])) (refusal 22) → (t ≡ true) × (x ≡ n)
   word-value w x p q = by t (ap ofWord (sym p) ∙ q)
     where
-      by : (t : Bool) → ofWord (Value x) ≡ pickSaid t (value (n ∷ [])) (refusal 22) → (t ≡ true) × (x ≡ n)
+      by : (t : Bool) → ofWord (Value x) ≡ cond t (value (n ∷ [])) (refusal 22) → (t ≡ true) × (x ≡ n)
       by true e = (refl, head-eq-of-cons-eq (ap (λ (s : Said). s .values) e))
       by false e = absurd (cons≢nil (ap (λ (s : Said). s .values) e))
 
-  pub word-refused : (w : Word) → w ≡ Refused → ofWord w ≡ pickSaid t (value (n ∷ [])) (refusal 22) → t ≡ false
+  pub word-refused : (w : Word) → w ≡ Refused → ofWord w ≡ cond t (value (n ∷ [])) (refusal 22) → t ≡ false
   word-refused w p q = by t (ap ofWord (sym p) ∙ q)
     where
-      by : (t : Bool) → ofWord Refused ≡ pickSaid t (value (n ∷ [])) (refusal 22) → t ≡ false
+      by : (t : Bool) → ofWord Refused ≡ cond t (value (n ∷ [])) (refusal 22) → t ≡ false
       by true e = absurd (cons≢nil (sym (ap (λ (s : Said). s .values) e)))
       by false e = refl
 

@@ -1,13 +1,14 @@
 -- The bounds of a tile: as 01 has them ('Tile bounds'), as T.800 has them (B.3), and that the two agree where nothing wraps.
 use Prim.Native.Nat.{ℕ, _+_, _*_, _/_, _%_, _^_, min, max, _<_}
-use mathlib.Core.Path.{_≡_, ap}
+use mathlib.Core.Path.{_≡_}
+use mathlib.Core.Bool.{cond}
 use mathlib.Core.List.{[], _∷_}
 use native.Mathlib.Nat.{mod-eq-of-lt, add-mul, one-mul}
 use native.Mathlib.Omega.{arith}
 use lib.Dec.{ltb}
 use borrow.Author.Tests.{lt-ltb}
 use Rattle.geometry.specs.Math.{addSat}
-use Rattle.geometry.specs.Said.{Said, value, refusal, pickSaid}
+use Rattle.geometry.specs.Said.{Said, value, refusal}
 use Rattle.geometry.specs.declared.tile.Side.{Side}
 use Rattle.geometry.specs.declared.tile.Area.{Area}
 use Rattle.geometry.specs.declared.tile.Grid.{Grid}
@@ -28,7 +29,7 @@ corners x y = value (x .start ∷ y .start ∷ x .end ∷ y .end ∷ [])
 -- 01: column p is the number modulo tw, row q the quotient; -10 for a number not below tw·th modulo 2^32
 unfoldable pub tileBoundsOf : Area → Grid → ℕ → Said
 tileBoundsOf image g n =
-    pickSaid (ltb n ((g .tw * g .th) % 2 ^ 32))
+    cond (ltb n ((g .tw * g .th) % 2 ^ 32))
     (corners (sideOf (image .x0) (image .x1) (g .tx0) (n % g .tw) (g .tdx)) (sideOf (image .y0) (image .y1) (g .ty0) (n / g .tw) (g .tdy)))
     (refusal 10)
 

@@ -1,6 +1,6 @@
 -- Setup for C, case by case: reports that are too short, and a setup with its reports laid over them or refused. Assumes nothing.
 use mathlib.Core.Path.{_≡_, refl, sym, ap, _∙_}
-use mathlib.Core.Bool.{Bool, true, false}
+use mathlib.Core.Bool.{Bool, true, false, cond}
 use mathlib.Core.List.{List}
 use Prim.Native.Nat.{ℕ, _≤_, _<_}
 use lib.ListN.{length}
@@ -16,7 +16,7 @@ use Rattle.packets.specs.Calls.{Setup, setupOf, Run}
 use Rattle.packets.specs.Signed.{bits-zero}
 use Rattle.packets.specs.Sound.{isZero}
 use Rattle.packets.specs.declared.answer.SetUp.{SetUp}
-use Rattle.host.specs.Setup.{reportWords, pickBytes, reportedOver, setupForC}
+use Rattle.host.specs.Setup.{reportWords, reportedOver, setupForC}
 
 module _ (sheet table marks reports : List ℕ) where
   abbrev set : Setup
@@ -46,7 +46,7 @@ module _ (sheet table marks reports : List ℕ) where
         ∙ rw (le-leb 16 (length reports) room) refl
 
     -- the reports are written just where the bits of its number are 0
-    by-number : (b : Bool) → eqb (ofZ w32 z) 0 ≡ b → Left (toZ w32 (ofZ w32 z)) t m (pickBytes b (over (wordsBytes (reportWords (r .state))) reports) reports)
+    by-number : (b : Bool) → eqb (ofZ w32 z) 0 ≡ b → Left (toZ w32 (ofZ w32 z)) t m (cond b (over (wordsBytes (reportWords (r .state))) reports) reports)
     by-number b h = let k : isZero (ofSetUp r .number) ≡ b = rw (← e) (sym (bits-zero z fits) ∙ h) in
         let l = left _ reported in
         (toZ-ofZ fits ∙ e ∙ l .0, (l .1 .0, (l .1 .1 .0, sym (rw k refl) ∙ l .1 .1 .1)))

@@ -6,10 +6,10 @@ use Prim.Native.Nat.{ℕ, zero, suc, _-_, _≤_, _<_}
 use native.Mathlib.Decide.{ℕ-discrete}
 use native.Mathlib.Omega.{arith}
 use Rattle.laws.specs.Cases.{le-or-lt}
-use Rattle.laws.specs.Gather.{gather, headed, headed-same}
+use Rattle.laws.specs.Gather.{gather, headed}
 use Rattle.laws.specs.Axis.{axis, axis-head, axis-end}
 use Rattle.laws.specs.Lists.{NoRepeats, none, more, behind, behind-here, behind-there}
-use Rattle.laws.specs.Gathered.{Keyed, keyed-from, behind-gather, gathered-all, gather-no-repeats}
+use Rattle.laws.specs.Gathered.{Keyed, keyed-from, behind-gather}
 
 -- AN AXIS: what is behind a point of it is the axis from the next point on
 module _ (nx : ℕ → ℕ) (grows : (x : ℕ) → x < nx x) where
@@ -82,19 +82,3 @@ module _ (nx : ℕ → ℕ) (grows : (x : ℕ) → x < nx x) where
       ∙ ap (λ l. l ++ gather f (behind ℕ-discrete (key p) (axis nx a b))) (e (k .1))
       ∙ ap (λ l. g (key p) ++ gather f l) (behind-axis a b (key p) (k .0))
       ∙ ap (headed g f) (sym (axis-head nx grows (key p) b (w .1)))
-
-  -- the same, of a pass that starts fresh
-  pub behind-pass : {B : Type 0} (same : Discrete B) (key : B → ℕ) (f g : ℕ → List B) → Keyed key f → (a b : ℕ) (p : B)
-      → In p (headed f f (axis nx a b)) → (In p (f (key p)) → behind same p (f (key p)) ≡ g (key p))
-      → behind same p (headed f f (axis nx a b)) ≡ headed g f (axis nx (key p) b)
-  behind-pass same key f g keyed a b p q e =
-      ap (behind same p) (sym (headed-same f (axis nx a b)))
-      ∙ behind-level same key f g keyed a b p (rw (headed-same f (axis nx a b)) q) e
-
-  pub pass-no-repeats : {B : Type 0} (key : B → ℕ) (f : ℕ → List B) → Keyed key f → ((i : ℕ) → NoRepeats (f i)) → (a b : ℕ) → NoRepeats (headed f f (axis nx a b))
-  pass-no-repeats key f keyed u a b =
-      rw (headed-same f (axis nx a b)) at (gather-no-repeats key f keyed (axis-no-repeats a b) u)
-
--- what holds of each part holds of a fresh pass
-pub passed-all : {B : Type 0} (Q : B → Type 0) (f : ℕ → List B) (is : List ℕ) → ((i : ℕ) (b : B) → In b (f i) → Q b) → (b : B) → In b (headed f f is) → Q b
-passed-all Q f is h b q = gathered-all Q f is h b (rw (headed-same f is) q)

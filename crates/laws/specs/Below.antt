@@ -122,9 +122,3 @@ module _ (a : ℕ) (f : ℕ → ℕ) where
   unfolding minBelow
   min-at zero i h = not-below i h
   min-at (suc n) i h = last-or h (λ e. rw e (omega arith)) (λ l. omega (arith, min-at n i l))
-
-  -- and at least what a and each is at least
-  pub min-most : (n m : ℕ) → m ≤ a → ((i : ℕ) → i < n → m ≤ f i) → m ≤ minBelow a f n
-  unfolding minBelow
-  min-most zero m k h = omega arith
-  min-most (suc n) m k h = omega (arith, h n (omega arith), min-most n m k (λ i l. h i (omega arith)))

@@ -2,8 +2,7 @@
 use mathlib.Core.Path.{_≡_, sym, _∙_}
 use mathlib.Core.List.{List, [], _∷_, _++_, map}
 use mathlib.Core.Logic.{⊎-elim}
-use Prim.Native.Nat.{ℕ, zero, suc, _+_, _-_, _*_, _≤_, _<_}
-use native.Mathlib.Nat.{mul-suc}
+use Prim.Native.Nat.{ℕ, zero, suc, _+_, _-_, _≤_, _<_}
 use native.Mathlib.Numerals.{add-one}
 use native.Mathlib.Omega.{arith}
 use lib.ListN.{length, getD, replicate, length-append, length-replicate, List·getD-append}
@@ -61,12 +60,6 @@ module _ (n : ℕ) where
   bounded-gather f (suc m) h b =
       rw (← (add-one m), gather-last f m)
       (bounded-append (gather f (span 0 m)) (f m) (bounded-gather f m h (λ i l. b i (omega arith))) (b m (omega arith)))
-
--- a sum of n numbers that are at most m
-pub sum-most : (f : ℕ → ℕ) (m n : ℕ) → ((i : ℕ) → i < n → f i ≤ m) → sumBelow f n ≤ m * n
-unfolding sumBelow
-sum-most f m zero h = omega arith
-sum-most f m (suc n) h = rw (mul-suc m n) (omega (arith, sum-most f m n (λ i l. h i (omega arith)), h n (omega arith)))
 
 -- a list of m that holds f 0 .. f (n - 1) and then blanks is the array filled so
 pub filled-is : {A : Type 0} (f : ℕ → A) (m n : ℕ) (blank : A) (l : List A) → length l ≡ m → n ≤ m

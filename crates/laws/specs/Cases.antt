@@ -1,8 +1,9 @@
--- Cases of a test, of an order and of a conjunction. Assumes nothing.
+-- Cases of a test, of an order, of a conjunction and of a choice. Assumes nothing.
 use mathlib.Core.Path.{_≡_, refl, sym}
-use mathlib.Core.Bool.{Bool, true, false, not, _&&_}
+use mathlib.Core.Bool.{Bool, true, false, cond, not, _&&_}
 use mathlib.Core.Logic.{_⊎_, inl, inr, ⊎-elim}
 use Prim.Native.Nat.{ℕ, zero, suc, _≤_, _<_, zero-le, suc-le-suc}
+use native.Mathlib.Omega.{arith}
 
 -- one number is at most the other, or above it
 pub le-or-lt : (a b : ℕ) → (a ≤ b) ⊎ (b < a)
@@ -34,3 +35,24 @@ not-true false e = refl
 pub not-false : (a : Bool) → not a ≡ false → a ≡ true
 not-false true e = refl
 not-false false e = sym e
+
+-- a choice that gives 0 has passed its test, where failing it gives another number
+pub cond-zero : (t : Bool) (a n : ℕ) → (t ≡ false → n ≡ 0 → ⊥) → cond t a n ≡ 0 → (t ≡ true) × (a ≡ 0)
+cond-zero true a n h e = (refl, e)
+cond-zero false a n h e = absurd (h refl e)
+
+-- one that gives more than 0 has, where failing it gives 0
+pub cond-some : (t : Bool) (n : ℕ) → 0 < cond t n 0 → (t ≡ true) × (0 < n)
+cond-some true n h = (refl, h)
+cond-some false n h = absurd (let z : ⊥ = omega arith in z)
+
+module _ {A : Type 0} where
+  -- a test in which the two differ tells which was chosen
+  pub cond-told : (good : A → Bool) (t : Bool) (a b : A) → good a ≡ true → good b ≡ false → good (cond t a b) ≡ t
+  cond-told good true a b p q = p
+  cond-told good false a b p q = q
+
+  -- two tests that fail to the same are one
+  pub cond-and : (s t : Bool) (a b : A) → cond s (cond t a b) b ≡ cond (s && t) a b
+  cond-and true t a b = refl
+  cond-and false t a b = refl

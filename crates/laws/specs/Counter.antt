@@ -9,7 +9,7 @@ use native.Mathlib.Omega.{arith}
 use lib.Dec.{eqb, ltb}
 use borrow.Author.Tests.{lt-ltb, le-ltb, eq-eqb, ne-eqb}
 use Rattle.laws.specs.Cases.{le-or-lt}
-use Rattle.laws.specs.Gather.{gather, only, keep}
+use Rattle.laws.specs.Gather.{gather, keep}
 use Rattle.laws.specs.Axis.{span}
 use Rattle.laws.specs.Spans.{span-head, span-end}
 

@@ -62,11 +62,6 @@ module _ (a : ℕ) (f : ℕ → ℕ) (lo : ℕ) where
   unfolding least
   least-below x hi h k = min-below a (λ i. f (lo + i)) x (hi - lo) h (λ i p. k (lo + i) (omega arith) (omega arith))
 
--- to start from the smaller of two is to take the smaller at the end
-pub least-from : (a b : ℕ) (f : ℕ → ℕ) (lo hi : ℕ) → least (min a b) f lo hi ≡ min a (least b f lo hi)
-unfolding least
-least-from a b f lo hi = min-from a b (λ i. f (lo + i)) (hi - lo)
-
 -- up to the larger of both ends is up to the end
 pub least-to : (a : ℕ) (f : ℕ → ℕ) (lo hi i : ℕ) → lo ≤ i → i ≤ max lo hi → hi ≤ i → least a f lo i ≡ least a f lo hi
 least-to a f lo hi i p q r =

@@ -19,12 +19,6 @@ pub data Rearranged {A : Type 0} : List A → List A → Type 0 where
   put : {x : A} {xs ys zs : List A} → Put x ys zs → Rearranged xs ys → Rearranged (x ∷ xs) zs
 
 module _ {A : Type 0} where
-  pub no-repeats-head : {x : A} {xs : List A} → NoRepeats (x ∷ xs) → In x xs → ⊥
-  no-repeats-head (more h r) = h
-
-  pub no-repeats-tail : {x : A} {xs : List A} → NoRepeats (x ∷ xs) → NoRepeats xs
-  no-repeats-tail (more h r) = r
-
   pub no-repeats-before : (xs : List A) (a : A) (ys : List A) → NoRepeats (xs ++ (a ∷ ys)) → In a xs → ⊥
   no-repeats-before [] a ys h i = not-in-nil i
   no-repeats-before (x ∷ xs) a ys (more n h) i =
@@ -80,12 +74,8 @@ module _ {A : Type 0} where
       (λ a i. ⊎-elim (λ e. absurd (n (in-cast (sym e) i))) (λ j. j) (in-put (r .1) (f a (there i))))
       (λ a i. ⊎-elim (λ e. absurd (s .0 (in-cast (sym e) i))) (λ j. j) (in-cons (g a (put-other (r .1) i)))))
 
--- to be a rearrangement is an equivalence
+-- rearrangements turned around, and one after another
 module _ {A : Type 0} where
-  pub rearranged-refl : (xs : List A) → Rearranged xs xs
-  rearranged-refl [] = empty
-  rearranged-refl (x ∷ xs) = put (front refl) (rearranged-refl xs)
-
   put-left : {x : A} {ys zs xs : List A} → Put x ys zs → Rearranged ys xs → Rearranged zs (x ∷ xs)
   put-left (front e) r = put (front (sym e)) r
   put-left (later p) (put q r) = put (later q) (put-left p r)
@@ -113,15 +103,6 @@ module _ {A : Type 0} where
   pub rearranged-trans : {xs ys zs : List A} → Rearranged xs ys → Rearranged ys zs → Rearranged xs zs
   rearranged-trans empty s = s
   rearranged-trans (put q r) s = let t = put-through q s in put (t .1) (rearranged-trans r (t .2))
-
-module _ {A B : Type 0} (f : A → B) where
-  put-map : {x : A} {ys zs : List A} → Put x ys zs → Put (f x) (map f ys) (map f zs)
-  put-map (front e) = front (ap f e)
-  put-map (later p) = later (put-map p)
-
-  pub rearranged-map : {xs zs : List A} → Rearranged xs zs → Rearranged (map f xs) (map f zs)
-  rearranged-map empty = empty
-  rearranged-map (put q r) = put (put-map q) (rearranged-map r)
 
 -- lists whose k are a rearrangement, and where k determines f: their f are one too
 module _ {A K B : Type 0} (k : A → K) (f : A → B) where

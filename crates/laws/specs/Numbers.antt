@@ -1,7 +1,7 @@
 -- Shifts, products and quotients as the code meets them. Assumes nothing.
-use Prim.Native.Nat.{ℕ, zero, suc, _+_, _*_, _/_, _%_, _^_, _≤_, _<_}
+use Prim.Native.Nat.{ℕ, zero, suc, _+_, _*_, _%_, _^_, _<_}
 use mathlib.Core.Path.{_≡_}
-use native.Mathlib.Nat.{one-mul, mod-eq-of-lt, lt-of-le-of-lt, mul-le-mul-left, le-of-lt, mul-lt-mul-of-pos-right, le-div-iff-mul-le, div-mul-le-self, zero-mul, zero-mod}
+use native.Mathlib.Nat.{one-mul, mod-eq-of-lt, lt-of-le-of-lt, mul-le-mul-left, le-of-lt, mul-lt-mul-of-pos-right, zero-mul, zero-mod}
 use native.Mathlib.Omega.{arith}
 use lib.Pow.{pow-lt, pow-pos, pow-add}
 

@@ -1,13 +1,13 @@
 -- Passing over numbers that give nothing: any next that passes over no number that gives something lists the same as every number. A stride is one. Assumes nothing.
-use mathlib.Core.Path.{_≡_, sym, ap, _∙_}
-use mathlib.Core.List.{List, [], _∷_, _++_}
+use mathlib.Core.Path.{_≡_, ap, _∙_}
+use mathlib.Core.List.{List, []}
 use mathlib.Core.Logic.{⊎-elim}
 use Prim.Native.Nat.{ℕ, zero, suc, _+_, _-_, _*_, _/_, _%_, _≤_, _<_}
 use native.Mathlib.Nat.{mod-lt, mod-eq-of-lt, mul-add-mod-self-right, div-add-mod', add-mul, mul-mod-left}
 use native.Mathlib.Omega.{arith}
 use Rattle.laws.specs.Cases.{le-or-lt}
 use Rattle.laws.specs.Gather.{gather}
-use Rattle.laws.specs.Axis.{axis, axis-head, axis-end, up, up-grows, span}
+use Rattle.laws.specs.Axis.{axis, axis-head, axis-end, span}
 use Rattle.laws.specs.Spans.{span-head, span-end}
 
 module _ {B : Type 0} (f : ℕ → List B) where

@@ -1,6 +1,6 @@
 -- What the program lends is enough for 01's text (packets/specs/Text.antt): the whole run over it is refused as 01 says, or lists what 01 says. Assumes nothing.
 use mathlib.Core.Path.{_≡_, refl, sym, ap, subst, _∙_}
-use mathlib.Core.Bool.{Bool, true, false}
+use mathlib.Core.Bool.{Bool, true, false, cond}
 use mathlib.Core.List.{List, [], _∷_, _++_}
 use Prim.Native.Nat.{ℕ, zero, suc, _+_, _-_, _*_, _≤_}
 use native.Mathlib.Omega.{arith}
@@ -9,11 +9,9 @@ use lib.Dec.{leb, eqb}
 use lib.IntN.{pos, negsuc}
 use borrow.Author.Tests.{le-leb, eq-eqb, eqb-true, eqb-false}
 use Rattle.laws.specs.Cases.{split}
-use Rattle.laws.specs.Below.{sumBelow}
-use Rattle.laws.specs.Bounded.{sum-most}
+use Rattle.laws.specs.Below.{sumBelow, sum-most}
 use Rattle.words.specs.Words.{over}
 use Rattle.words.specs.Laws.{Bytes}
-use Rattle.geometry.specs.Precinct.{pick}
 use Rattle.packets.specs.Sheet.{readVerdict}
 use Rattle.packets.specs.Tile.{resOf, reported, needed, entriesBefore, tableBytes}
 use Rattle.packets.specs.Grid.{gridAgreed}
@@ -30,8 +28,8 @@ use Rattle.listing.specs.Padded.{padded-listed}
 use Rattle.listing.specs.Few.{listed-few}
 
 -- where a verdict is one before the table's, the table does not matter
-tested : (read grid many enough room : Bool) (v : ℕ) → (pick read (pick grid (pick many (pick enough 0 6) 5) 4) v ≡ 0 → ⊥)
-    → pick read (pick grid (pick many (pick enough (pick room 0 7) 6) 5) 4) v ≡ pick read (pick grid (pick many (pick enough 0 6) 5) 4) v
+tested : (read grid many enough room : Bool) (v : ℕ) → (cond read (cond grid (cond many (cond enough 0 6) 5) 4) v ≡ 0 → ⊥)
+    → cond read (cond grid (cond many (cond enough (cond room 0 7) 6) 5) 4) v ≡ cond read (cond grid (cond many (cond enough 0 6) 5) 4) v
 tested true true true true room v n = absurd (n refl)
 tested true true true false room v n = refl
 tested true true false enough room v n = refl
@@ -90,7 +88,7 @@ module _ (sheet : List ℕ) (bytes : Bytes sheet) where
       split (eqb verdict 0)
       (λ t. rw (le-leb _ _ (room (eqb-true _ _ t)), le-leb _ _ own-room))
       (λ t.
-      let n : pick (eqb (readVerdict sheet) 0) (pick (gridAgreed (sheetIn sheet)) (pick (leb (needed st) 65536) (pick (leb (needed st) (length marks)) 0 6) 5) 4) (readVerdict sheet) ≡ 0 → ⊥
+      let n : cond (eqb (readVerdict sheet) 0) (cond (gridAgreed (sheetIn sheet)) (cond (leb (needed st) 65536) (cond (leb (needed st) (length marks)) 0 6) 5) 4) (readVerdict sheet) ≡ 0 → ⊥
       = λ e. eqb-false verdict 0 t (rw (le-leb _ _ own-room) e) in
       rw (le-leb _ _ own-room) (tested (eqb (readVerdict sheet) 0) (gridAgreed (sheetIn sheet)) (leb (needed st) 65536) (leb (needed st) (length marks)) (leb (tableBytes st) (length table)) (readVerdict sheet) n))
 

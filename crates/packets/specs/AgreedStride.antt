@@ -1,7 +1,7 @@
 -- 01's stride on an agreed grid: the smallest step divides the step of every hit, so that it passes over none and lists the positions (Strided). Assumes nothing.
 use mathlib.Core.Path.{_≡_, refl, ap, _∙_}
 use mathlib.Core.List.{[]}
-use mathlib.Core.Bool.{Bool, true, false≢true}
+use mathlib.Core.Bool.{Bool, true, cond}
 use mathlib.Core.Logic.{⊎-elim}
 use Prim.Native.Nat.{ℕ, _+_, _-_, _*_, _%_, _^_, _≤_, _<_}
 use native.Mathlib.Nat.{mul-pos, mul-mod-left, mul-lt-mul-of-pos-left, mul-left-comm}
@@ -19,9 +19,10 @@ use Rattle.packets.specs.State.{origin}
 use Rattle.packets.specs.Tile.{Sheet, dxOf, dyOf, levelOf, resOf}
 use Rattle.packets.specs.Orders.{Order, lrcp, rlcp, rpcl, pcrl, cprl, other, Range, componentsGood}
 use Rattle.packets.specs.Grid.{stepX, stepY, smallest, smallestOf, stepsFit, stepsDivide, agreed}
-use Rattle.packets.specs.Positions.{loopsOf, hasPositions, pickList, positionsIn}
+use Rattle.packets.specs.Positions.{loopsOf, hasPositions, positionsIn}
 use Rattle.packets.specs.Good.{Good}
 use Rattle.packets.specs.Strided.{For, oneResolution, oneComponent, everything, pointsFor, outerLoops, Hit, PassesNoHit, strided, strided-positions, strided-listed}
+use Rattle.packets.specs.Inside.{has-good}
 use Rattle.packets.specs.NextHits.{met-has, has-precincts, divisors-pass}
 use Rattle.packets.specs.declared.state.State.{State}
 use Rattle.packets.specs.declared.cursor.Position.{Position}
@@ -147,17 +148,8 @@ module _ (s : Sheet) (h : Good s) (g : Range) (good : componentsGood (s .st) g �
   stride-agreed cprl e = strided-positions s g _ _ cprl (source-passes oneComponent refl)
   stride-agreed other e = refl
 
--- a progression with positions has a good component range
-has-good : (s : Sheet) (g : Range) (o : Order) → hasPositions s g o ≡ true → componentsGood (s .st) g ≡ true
-has-good s g lrcp e = e
-has-good s g rlcp e = e
-has-good s g rpcl e = e
-has-good s g pcrl e = e
-has-good s g cprl e = e
-has-good s g other e = absurd (false≢true e)
-
 -- so the positions of any progression, if it has any
 pub stride-listed : (s : Sheet) → Good s → (g : Range) (o : Order) → agreed s o ≡ true
-    → pickList (hasPositions s g o) (nest (strided s g (sourceX s (pointsFor o)) (sourceY s (pointsFor o)) o) origin) [] ≡ positionsIn s g o
+    → cond (hasPositions s g o) (nest (strided s g (sourceX s (pointsFor o)) (sourceY s (pointsFor o)) o) origin) [] ≡ positionsIn s g o
 stride-listed s h g o e =
     strided-listed s g (sourceX s (pointsFor o)) (sourceY s (pointsFor o)) o (λ k. stride-agreed s h g (has-good s g o k) o e)

@@ -1,7 +1,6 @@
 -- Sheets whose resolutions see the same axes: what setup reports and whether the grid is agreed depend on these alone. Assumes nothing.
 use mathlib.Core.Path.{_≡_, refl, ap, _∙_}
 use mathlib.Core.Bool.{Bool, _&&_}
-use mathlib.Core.List.{List}
 use Prim.Native.Nat.{ℕ, _%_, _<_}
 use lib.ListN.{getD}
 use lib.Dec.{leb, eqb}

@@ -1,6 +1,4 @@
 -- Document 01's number and values for every case of every answer ('Numbers that come back').
-use Prim.Native.Nat.{ℕ}
-use mathlib.Core.List.{List, [], _∷_}
 use mathlib.Core.Option.{Option, some, none}
 use lib.IntN.{ℤ, pos, negsuc}
 use Rattle.packets.specs.declared.state.State.{State}

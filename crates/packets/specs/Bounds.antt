@@ -1,6 +1,6 @@
 -- Tile bounds as the C host asks for them (01, 'Tile bounds').
 use mathlib.Core.Path.{_≡_, refl}
-use mathlib.Core.Bool.{Bool, true, false}
+use mathlib.Core.Bool.{Bool, true, false, cond}
 use mathlib.Core.List.{List}
 use Prim.Native.Nat.{ℕ}
 use lib.ListN.{length}
@@ -18,14 +18,10 @@ pub record Bounds : Type 0 where
   pub number : ℤ
   pub output : List ℕ
 
-abbrev pub pickBounds : Bool → Bounds → Bounds → Bounds
-pickBounds true a b = a
-pickBounds false a b = b
-
 -- 01: four bytes each, big-endian, and 0; -8 for an output under 16 bytes, after -10; bytes beyond are unchanged, and a refusal changes nothing
 abbrev pub writtenBy : ℤ → List ℕ → List ℕ → Bounds
 writtenBy (pos n) words output =
-    pickBounds (leb 16 (length output))
+    cond (leb 16 (length output))
     (record { number = pos 0; output = over (wordsBytes words) output })
     (record { number = refusal 8; output = output })
 writtenBy (negsuc n) words output = record { number = negsuc n; output = output }
@@ -38,8 +34,8 @@ pub bounds-refuses : (image : Area) (g : Grid) (n : ℕ) (output : List ℕ) →
 unfolding boundsOf
 bounds-refuses image g n output = by (tileBoundsOf image g n .number) (tileBoundsOf image g n .values)
   where
-    kept : (t : Bool) (new : List ℕ) → (pickBounds t (record { number = pos 0; output = new }) (record { number = refusal 8; output = output }) .number ≡ pos 0 → ⊥)
-        → pickBounds t (record { number = pos 0; output = new }) (record { number = refusal 8; output = output }) .output ≡ output
+    kept : (t : Bool) (new : List ℕ)
+        → (let b : Bounds = cond t (record { number = pos 0; output = new }) (record { number = refusal 8; output = output }) in (b .number ≡ pos 0 → ⊥) → b .output ≡ output)
     kept true new h = absurd (h refl)
     kept false new h = refl
 

@@ -1,6 +1,6 @@
 -- The calls: for every argument, refused or not, the answer and the later contents of everything lent.
 use Prim.Native.Nat.{ℕ, _-_, _*_}
-use mathlib.Core.Bool.{Bool, true, false}
+use mathlib.Core.Bool.{cond}
 use mathlib.Core.List.{List, [], _∷_, map}
 use mathlib.Core.Option.{some, none}
 use lib.ListN.{length, replicate}
@@ -11,7 +11,6 @@ use Rattle.laws.specs.Axis.{span}
 use Rattle.laws.specs.Lists.{behind}
 use Rattle.laws.specs.Runs.{Answer, Packet, Ended, seek, mark, marked}
 use Rattle.laws.specs.AllRuns.{joined, dedupe}
-use Rattle.geometry.specs.Precinct.{pick}
 use Rattle.packets.specs.State.{emptyState, freshCursor, endedCursor}
 use Rattle.words.specs.Words.{wordsBytes, over}
 use Rattle.packets.specs.Sheet.{readVerdict}
@@ -37,10 +36,6 @@ pub record Setup : Type 0 where
   pub table : List ℕ
   pub marks : List ℕ
 
-abbrev pub pickSetup : Bool → Setup → Setup → Setup
-pickSetup true a b = a
-pickSetup false a b = b
-
 -- 01: -1, -2, -3 as the sheet is read, then -4 to -7 in order; 0 where there is no refusal
 unfoldable pub setupVerdict : List ℕ → List ℕ → List ℕ → ℕ
 setupVerdict sheet table marks =
@@ -48,8 +43,8 @@ setupVerdict sheet table marks =
     let v = readVerdict sheet in
     let grid = gridAgreed (sheetIn sheet) in
     let many = leb (needed st) 65536 in
-    pick (eqb v 0)
-    (pick grid (pick many (pick (leb (needed st) (length marks)) (pick (leb (tableBytes st) (length table)) 0 7) 6) 5) 4)
+    cond (eqb v 0)
+    (cond grid (cond many (cond (leb (needed st) (length marks)) (cond (leb (tableBytes st) (length table)) 0 7) 6) 5) 4)
     v
 
 -- 01: setup writes the table and clears the needed marks; what stands beyond is unchanged
@@ -69,17 +64,14 @@ turnedAway n table marks = record { said = record { number = refusal n; state = 
 unfoldable pub setupOf : List ℕ → List ℕ → List ℕ → Setup
 setupOf sheet table marks =
     let v = setupVerdict sheet table marks in
-    pickSetup (eqb v 0) (accepted sheet table marks) (turnedAway v table marks)
+    cond (eqb v 0) (accepted sheet table marks) (turnedAway v table marks)
 
 -- OPEN. 01: -9 is tested before -11; opening a progression again gives a fresh cursor over the marks as they are
-abbrev pub pickOpen : Bool → OpenSaid → OpenSaid → OpenSaid
-pickOpen true a b = a
-pickOpen false a b = b
 
 unfoldable pub openOf : State → List ℕ → List ℕ → ℕ → OpenSaid
 openOf st table marks k =
-    pickOpen (stateSound st table marks)
-    (pickOpen (ltb k (st .progressions))
+    cond (stateSound st table marks)
+    (cond (ltb k (st .progressions))
     (record { number = pos 0; cursor = some (freshCursor k) })
     (record { number = refusal 11; cursor = none }))
     (record { number = refusal 9; cursor = none })
@@ -94,10 +86,6 @@ pub record Step : Type 0 where
   pub said : StepSaid
   pub marks : List ℕ
 
-abbrev pub pickStep : Bool → Step → Step → Step
-pickStep true a b = a
-pickStep false a b = b
-
 -- 01: 1, the packet marked and returned with the moved cursor; or 0, the cursor is ended
 abbrev pub stepBy : State → List ℕ → ℕ → Answer Position → Step
 stepBy st marks k (Packet p) =
@@ -108,7 +96,7 @@ stepBy st marks k Ended = record { said = record { number = pos 0; packet = none
 unfoldable pub stepOf : State → List ℕ → List ℕ → Cursor → Step
 stepOf st table marks c =
     let found = stepBy st marks (c .progression) (seek (indexOf st) marks (after (c .place) (positionsFor st table (c .progression)))) in
-    pickStep (sound st table marks c) found
+    cond (sound st table marks c) found
     (record { said = record { number = refusal 9; packet = none; cursor = c }; marks = marks })
 
 -- WHOLE RUN. What it answers and leaves
@@ -117,10 +105,6 @@ pub record Run : Type 0 where
   pub table : List ℕ
   pub marks : List ℕ
   pub output : List ℕ
-
-abbrev pub pickRun : Bool → Run → Run → Run
-pickRun true a b = a
-pickRun false a b = b
 
 -- the plain loops of every progression in turn, one after the other, with a packet already listed left out
 unfoldable pub listed : State → List ℕ → List Position
@@ -138,7 +122,7 @@ unfoldable pub runVerdict : List ℕ → List ℕ → List ℕ → List ℕ → 
 runVerdict sheet table marks output =
     let v = setupVerdict sheet table marks in
     let room = leb (16 * needed (reported (sheetIn sheet))) (length output) in
-    pick (eqb v 0) (pick room 0 8) v
+    cond (eqb v 0) (cond room 0 8) v
 
 -- 01: the whole run answers the count of its records; output beyond is unchanged
 unfoldable pub ranOver : Setup → List ℕ → Run
@@ -156,4 +140,4 @@ unfoldable pub wholeRunOf : List ℕ → List ℕ → List ℕ → List ℕ → 
 wholeRunOf sheet table marks output =
     let v = runVerdict sheet table marks output in
     let ran = ranOver (accepted sheet table marks) output in
-    pickRun (eqb v 0) ran (record { number = refusal v; table = table; marks = marks; output = output })
+    cond (eqb v 0) ran (record { number = refusal v; table = table; marks = marks; output = output })

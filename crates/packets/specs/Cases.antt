@@ -3,7 +3,7 @@
 -- (theorem 2, InPlay); what the listing program prints for sheet A is computed point by point. Assumes nothing.
 use Prim.Native.Nat.{ℕ, _+_, _-_}
 use mathlib.Core.Path.{_≡_, refl, subst, fun-ext}
-use mathlib.Core.Bool.{Bool, true, false, _&&_}
+use mathlib.Core.Bool.{Bool, true, false, cond, _&&_}
 use mathlib.Core.List.{List, [], _∷_, _++_, map}
 use mathlib.Core.Option.{Option, some, none}
 use lib.ListN.{length, replicate}
@@ -25,11 +25,11 @@ use Rattle.packets.specs.Sheet.{recordVerdict, dueBehind, readFrom, read
 use Rattle.packets.specs.Tile.{Sheet, width, height, resOf, maxPrec, maxRes, dxMin, dyMin, reported, needed, indexOf, entriesBefore, tableBytes}
 use Rattle.packets.specs.Orders.{Order, orderOf, Range, rangeOf}
 use Rattle.packets.specs.Grid.{changeOf, stepsFit, stepsDivide, gridAgreed}
-use Rattle.packets.specs.Positions.{met, numberAt, positionsIn, pickList, hasPositions}
+use Rattle.packets.specs.Positions.{met, numberAt, positionsIn, hasPositions}
 use Rattle.packets.specs.Table.{tableOf, sheetIn, sheetAt}
 use Rattle.packets.specs.Sound.{placeSound, componentsSound, progressionsSound, entrySound, tableSound, reportsSound, stateSound, isIn, cursorSound, sound}
 use Rattle.packets.specs.Same.{samePosition, same, decided}
-use Rattle.packets.specs.Calls.{Setup, Step, setupVerdict, setupOf, refusal, listed, after, stepBy, pickStep, stepOf}
+use Rattle.packets.specs.Calls.{Setup, Step, setupVerdict, setupOf, refusal, listed, after, stepBy, stepOf}
 use Rattle.packets.specs.Text.{textOf, digitsUpTo}
 use Rattle.packets.specs.Strided.{strided, pointsFor}
 use Rattle.packets.specs.InPlay.{nextX, nextY, nextInPlay, in-play-listed}
@@ -221,12 +221,12 @@ module _ (positions : Sheet → Range → Order → List Position) where
   stepVia st table marks c =
       let ps : List Position = positionsBy st table (c .progression) in
       let found = stepBy st marks (c .progression) (seek (indexOf st) marks (after (c .place) ps)) in
-      pickStep (stateSound st table marks && (ltb (c .progression) (st .progressions) && placeSound (c .place) ps)) found
+      cond (stateSound st table marks && (ltb (c .progression) (st .progressions) && placeSound (c .place) ps)) found
       (record { said = record { number = refusal 9; packet = none; cursor = c }; marks = marks })
 
 -- positions by the next hit in play
 inPlay : Sheet → Range → Order → List Position
-inPlay s g o = pickList (hasPositions s g o) (nest (strided s g (nextX s g (pointsFor o)) (nextY s g (pointsFor o)) o) origin) []
+inPlay s g o = cond (hasPositions s g o) (nest (strided s g (nextX s g (pointsFor o)) (nextY s g (pointsFor o)) o) origin) []
 
 in-play : inPlay ≡ positionsIn
 unfolding inPlay

@@ -2,13 +2,13 @@
 -- is met, column + row·width, list the same packets at the same points in the same order. Assumes nothing.
 use Prim.Native.Nat.{ℕ, _+_, _*_, _≤_, _<_}
 use mathlib.Core.Path.{_≡_, refl, sym, ap, _∙_, fun-ext}
-use mathlib.Core.Bool.{Bool, true, false, _&&_, and-comm, false≢true}
+use mathlib.Core.Bool.{Bool, true, false, cond, _&&_, and-comm, false≢true}
 use mathlib.Core.List.{List, [], _∷_, _++_, map}
 use mathlib.Core.Logic.{_⊎_, inl, inr, ⊎-elim}
 use native.Mathlib.Omega.{arith}
 use lib.Dec.{ltb, eqb}
 use borrow.Author.Tests.{eq-eqb, eqb-true, leb-true}
-use Rattle.laws.specs.Cases.{and-true}
+use Rattle.laws.specs.Cases.{and-true, cond-some}
 use Rattle.laws.specs.Gather.{gather, gather-map, gather-gather, map-gather, map-map, only, keep}
 use Rattle.laws.specs.Axis.{span, up-grows}
 use Rattle.laws.specs.Spans.{span-head, span-end}
@@ -16,13 +16,12 @@ use Rattle.laws.specs.Counter.{Decides, of, tally-agrees}
 use Rattle.laws.specs.Nest.{Loop, nest, nest-append}
 use Rattle.laws.specs.NestOnce.{Apart}
 use Rattle.laws.specs.NestFixed.{Blind, nest-fixed, fixed-two}
-use Rattle.geometry.specs.Precinct.{pick}
 use Rattle.geometry.specs.Hits.{Ordered}
 use Rattle.geometry.specs.Raster.{Point, point, raster, MetOnce, raster-numbers, raster-each}
 use Rattle.packets.specs.State.{origin}
 use Rattle.packets.specs.Tile.{Sheet, resOf, lineX, lineY, width, height, precincts}
 use Rattle.packets.specs.Orders.{Order, lrcp, rlcp, rpcl, pcrl, cprl, other, Range, componentsGood}
-use Rattle.packets.specs.Positions.{met, numberAt, layers, resolutions, components, rows, columns, thePrecinct, loopsOf, hasPositions, pickList, positionsIn}
+use Rattle.packets.specs.Positions.{met, numberAt, layers, resolutions, components, rows, columns, thePrecinct, loopsOf, hasPositions, positionsIn}
 use Rattle.packets.specs.Good.{Good}
 use Rattle.packets.specs.Standard.{tested, ownCounter, sameCounter, nextPrecincts, layersOf, counting, standardLoops, standardIn}
 use Rattle.packets.specs.declared.cursor.Position.{Position}
@@ -71,7 +70,7 @@ module _ (s : Sheet) where
   unfolding tested met
   tested-met p = by (ltb (p .resno) (resOf (s .st) (p .compno))) _ _
     where
-      by : (t h : Bool) (n : ℕ) → ((t && h) && ltb 0 (pick t n 0)) ≡ (ltb 0 (pick t n 0) && h)
+      by : (t h : Bool) (n : ℕ) → ((t && h) && ltb 0 (cond t n 0)) ≡ (ltb 0 (cond t n 0) && h)
       by true h n = and-comm h (ltb 0 n)
       by false h n = refl
 
@@ -85,11 +84,7 @@ module _ (s : Sheet) where
 
   -- a resolution with precincts is one that the component has
   has-resolution : (c r : ℕ) → 0 < precincts s c r → ltb r (resOf (s .st) c) ≡ true
-  has-resolution c r = by (ltb r (resOf (s .st) c)) (width s c r * height s c r)
-    where
-      by : (t : Bool) (n : ℕ) → 0 < pick t n 0 → t ≡ true
-      by true n some = refl
-      by false n some = absurd (let z : ⊥ = omega arith in z)
+  has-resolution c r some = cond-some (ltb r (resOf (s .st) c)) (width s c r * height s c r) some .0
 
   module _ (good : Good s) (c r : ℕ) (h : c < s .st .components) where
     ordered-x : Ordered (lineX s c r)
@@ -162,6 +157,6 @@ pub standard-positions : (s : Sheet) → Good s → (g : Range) (o : Order) → 
 unfolding standardIn positionsIn
 standard-positions s good g o = by (hasPositions s g o) refl
   where
-    by : (t : Bool) → hasPositions s g o ≡ t → pickList t (standardLoops s g o) [] ≡ pickList t (nest (loopsOf s g o) origin) []
+    by : (t : Bool) → hasPositions s g o ≡ t → cond t (standardLoops s g o) [] ≡ cond t (nest (loopsOf s g o) origin) []
     by true e = loops-agree s g good o e
     by false e = refl

@@ -1,24 +1,19 @@
 -- The fields of a sheet that is read without a refusal: where they come from, and that they are in range. Assumes nothing.
-use mathlib.Core.Path.{_≡_, refl, sym, ap, _∙_}
-use mathlib.Core.Bool.{Bool, true, false, _&&_, _||_, false≢true}
+use mathlib.Core.Path.{_≡_, refl}
+use mathlib.Core.Bool.{Bool, true, false, cond, _&&_, _||_, false≢true}
 use mathlib.Core.Logic.{_⊎_, inl, inr}
 use mathlib.Core.List.{List}
-use Prim.Native.Nat.{ℕ, _+_, _-_, _*_, _^_, _≤_, _<_}
+use Prim.Native.Nat.{ℕ, _+_, _-_, _<_}
 use native.Mathlib.Omega.{arith}
-use lib.ListN.{length, getD}
-use lib.Dec.{leb, eqb}
-use borrow.Author.Tests.{leb-true, eqb-true, eq-eqb}
-use Rattle.laws.specs.Cases.{and-true, and-both, split}
-use Rattle.laws.specs.Below.{allBelow, all-at}
+use lib.Dec.{eqb}
+use Rattle.laws.specs.Cases.{and-true, and-both}
+use Rattle.laws.specs.Below.{all-at}
 use Rattle.laws.specs.Pointwise.{all-true, filled-at, filled-beyond}
-use Rattle.words.specs.Words.{wordAt}
-use Rattle.words.specs.Laws.{word-small, Bytes}
-use Rattle.geometry.specs.Precinct.{pick}
 use Rattle.packets.specs.State.{noProgression}
-use Rattle.packets.specs.Sheet.{wd, within, judged, unnamed, tileRange, componentRange, exponentRange, progressionRange, componentRecord, resolutionRecord, progressionRecord, progressionAt, fieldsOf, volumeVerdict, wholeTileVerdict}
+use Rattle.packets.specs.Sheet.{wd, judged, unnamed, componentRange, exponentRange, progressionRange, componentRecord, resolutionRecord, progressionRecord, progressionAt, fieldsOf, volumeVerdict, wholeTileVerdict}
 use Rattle.packets.specs.Tile.{dxOf, dyOf, resOf}
 use Rattle.packets.specs.Grid.{changeOf}
-use Rattle.packets.specs.Sound.{tileGood, componentsSound, progressionsSound, progressionGood, noRange, isZero}
+use Rattle.packets.specs.Sound.{tileGood, componentsSound, progressionsSound, progressionGood}
 use Rattle.packets.specs.Reading.{Read}
 
 -- a record with no refusal has the right form and is in range
@@ -106,7 +101,7 @@ module _ (b : List ℕ) where
         or-true false y (inl e) = absurd (false≢true e)
         or-true false y (inr e) = e
 
-        by : (t : Bool) → eqb (wd b i 0) 5 ≡ t → pick t (wholeTileVerdict b (wd b 0 7) i) (volumeVerdict b i) ≡ 0 → (ranged || alone) ≡ true
+        by : (t : Bool) → eqb (wd b i 0) 5 ≡ t → cond t (wholeTileVerdict b (wd b 0 7) i) (volumeVerdict b i) ≡ 0 → (ranged || alone) ≡ true
         by true t e =
             let shape = judged-zero (eqb (wd b i 0) 5 && (unnamed b i 2 && eqb (wd b 0 7) 1)) true e .0 in
             let more = and-true (eqb (wd b i 0) 5) (unnamed b i 2 && eqb (wd b 0 7) 1) shape in

@@ -1,6 +1,6 @@
 -- The agreed grid (01, 'Agreed grid'; refusal -4).
 use Prim.Native.Nat.{ℕ, _%_}
-use mathlib.Core.Bool.{Bool, true, false, _&&_}
+use mathlib.Core.Bool.{Bool, true, _&&_}
 use lib.ListN.{getD}
 use lib.Dec.{leb, eqb}
 use Rattle.laws.specs.Below.{allBelow, minBelow}

@@ -2,7 +2,7 @@
 -- this passes over no hit, and so lists the positions (Strided). Assumes nothing.
 use mathlib.Core.Path.{_≡_, refl}
 use mathlib.Core.List.{[]}
-use mathlib.Core.Bool.{Bool, true, false, _&&_}
+use mathlib.Core.Bool.{Bool, true, false, cond, _&&_}
 use Prim.Native.Nat.{ℕ, _+_, _≤_, _<_, max}
 use native.Mathlib.Omega.{arith}
 use native.Mathlib.Nat.{mul-pos}
@@ -13,13 +13,12 @@ use Rattle.laws.specs.Cases.{and-true}
 use Rattle.laws.specs.Least.{least, least-start, least-at, least-below}
 use Rattle.laws.specs.Stride.{stride, stride-grows}
 use Rattle.laws.specs.Nest.{nest}
-use Rattle.geometry.specs.Precinct.{pick}
 use Rattle.geometry.specs.Line.{hitAt}
 use Rattle.packets.specs.State.{origin}
 use Rattle.packets.specs.Tile.{Sheet, lineY, precincts}
 use Rattle.packets.specs.Orders.{Order, Range}
 use Rattle.packets.specs.Grid.{stepX, stepY}
-use Rattle.packets.specs.Positions.{loopsOf, hasPositions, pickList, positionsIn}
+use Rattle.packets.specs.Positions.{loopsOf, hasPositions, positionsIn}
 use Rattle.packets.specs.Strided.{For, pointsFor, rangeAt, PassesNoHit, strided, strided-positions, strided-listed}
 use Rattle.packets.specs.NextHits.{met-has, has-precincts, row-by-steps, column-by-steps}
 use Rattle.packets.specs.declared.cursor.Position.{Position}
@@ -27,7 +26,7 @@ use Rattle.packets.specs.declared.cursor.Position.{Position}
 -- the least next multiple of the steps in play, of a range; stop if that is less or none is in play
 unfoldable pub nextInPlay : Range → (ℕ → ℕ → Bool) → (ℕ → ℕ → ℕ) → ℕ → ℕ → ℕ
 nextInPlay g play f stop x =
-    least stop (λ c. least stop (λ r. pick (play c r) (stride (f c r) x) stop) (g .resno0) (g .resno1)) (g .compno0) (g .compno1)
+    least stop (λ c. least stop (λ r. cond (play c r) (stride (f c r) x) stop) (g .resno0) (g .resno1)) (g .compno0) (g .compno1)
 
 module _ (g : Range) (play : ℕ → ℕ → Bool) (f : ℕ → ℕ → ℕ) (stop x : ℕ) where
   -- it is at most stop
@@ -42,7 +41,7 @@ module _ (g : Range) (play : ℕ → ℕ → Bool) (f : ℕ → ℕ → ℕ) (st
       least-below stop _ (g .compno0) x (g .compno1) h
       (λ c i j. least-below stop _ (g .resno0) x (g .resno1) h (λ r a b. by c r (play c r) refl))
     where
-      by : (c r : ℕ) (t : Bool) → play c r ≡ t → x < pick t (stride (f c r) x) stop
+      by : (c r : ℕ) (t : Bool) → play c r ≡ t → x < cond t (stride (f c r) x) stop
       by c r true e = stride-grows (f c r) (k c r e) x
       by c r false e = h
 
@@ -50,7 +49,7 @@ module _ (g : Range) (play : ℕ → ℕ → Bool) (f : ℕ → ℕ → ℕ) (st
   pub in-play-skips : (c r : ℕ) → g .compno0 ≤ c → c < g .compno1 → g .resno0 ≤ r → r < g .resno1 → play c r ≡ true → nextInPlay g play f stop x ≤ stride (f c r) x
   unfolding nextInPlay
   in-play-skips c r a b i j e =
-      let own : ℕ → ℕ → ℕ = λ c r. pick (play c r) (stride (f c r) x) stop in
+      let own : ℕ → ℕ → ℕ = λ c r. cond (play c r) (stride (f c r) x) stop in
       let outer = least-at stop (λ c. least stop (own c) (g .resno0) (g .resno1)) (g .compno0) (g .compno1) c a b in
       let inner = least-at stop (own c) (g .resno0) (g .resno1) r i j in
       let p : own c r ≡ stride (f c r) x = rw e in
@@ -118,5 +117,5 @@ in-play-lists s g o = strided-positions s g (nextX s g (pointsFor o)) (nextY s g
 
 -- so the positions of any progression, if it has any
 pub in-play-listed : (s : Sheet) (g : Range) (o : Order)
-    → pickList (hasPositions s g o) (nest (strided s g (nextX s g (pointsFor o)) (nextY s g (pointsFor o)) o) origin) [] ≡ positionsIn s g o
+    → cond (hasPositions s g o) (nest (strided s g (nextX s g (pointsFor o)) (nextY s g (pointsFor o)) o) origin) [] ≡ positionsIn s g o
 in-play-listed s g o = strided-listed s g (nextX s g (pointsFor o)) (nextY s g (pointsFor o)) o (λ k. in-play-lists s g o)

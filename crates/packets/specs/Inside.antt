@@ -1,16 +1,15 @@
 -- What is a position of a progression: the exact law of membership, and what every position has. Assumes nothing.
 use mathlib.Core.Path.{_≡_, refl, sym, _∙_}
-use mathlib.Core.Bool.{Bool, true, false, true≢false, false≢true}
+use mathlib.Core.Bool.{Bool, true, false, cond, true≢false, false≢true}
 use mathlib.Core.List.{List, [], _∷_, List·Memᴰ as In, List·Memᴰ·head as here, List·Memᴰ·tail as there, List·Memᴰ·not-nil as not-in-nil, List·Memᴰ·cases-cons as in-cons}
 use mathlib.Core.Logic.{_↔_, ⊎-elim}
 use Prim.Native.Nat.{ℕ, _+_, _≤_, _<_, zero-le}
 use native.Mathlib.Omega.{arith}
-use lib.Dec.{ltb, eqb}
-use borrow.Author.Tests.{eq-eqb, eqb-true, leb-true}
+use lib.Dec.{ltb}
+use borrow.Author.Tests.{leb-true}
 use Rattle.laws.specs.Cases.{and-true, split}
 use Rattle.laws.specs.Nest.{nest, Alike, alike-nest}
 use Rattle.laws.specs.NestOnce.{Within, nest-kept, nest-within, within-nest}
-use Rattle.geometry.specs.Precinct.{pick}
 use Rattle.packets.specs.State.{origin}
 use Rattle.packets.specs.Tile.{Sheet, resOf, precincts}
 use Rattle.packets.specs.Orders.{Order, lrcp, rlcp, rpcl, pcrl, cprl, other, Range, componentsGood}
@@ -129,7 +128,7 @@ module _ (s : Sheet) (g : Range) where
   ranged other h p w = absurd (false≢true h)
 
   -- the loop over the precinct met at a point has one turn, or none
-  only-met : (p : Position) → numberAt s p ≤ p .precno → p .precno < pick (met s p) (numberAt s p + 1) (numberAt s p) → (met s p ≡ true) × (p .precno ≡ numberAt s p)
+  only-met : (p : Position) → numberAt s p ≤ p .precno → p .precno < cond (met s p) (numberAt s p + 1) (numberAt s p) → (met s p ≡ true) × (p .precno ≡ numberAt s p)
   only-met p a b =
       split (met s p)
       (λ t. let k : p .precno < numberAt s p + 1 = rw t at b in (t, omega arith))
@@ -157,7 +156,7 @@ module _ (s : Sheet) (g : Range) where
   in-still o b p m = in-positions s g o p .0 m .2 b
 
   -- the loop over the precinct met at a point takes its number
-  one-turn : (p : Position) → MetAt s p → (numberAt s p ≤ p .precno) × (p .precno < pick (met s p) (numberAt s p + 1) (numberAt s p))
+  one-turn : (p : Position) → MetAt s p → (numberAt s p ≤ p .precno) × (p .precno < cond (met s p) (numberAt s p + 1) (numberAt s p))
   one-turn p m = let e = m .number in (omega arith, rw (m .meets) (omega arith))
 
   within-point : (o : Order) → byPoints o ≡ true → (p : Position) → InRange g p → MetAt s p → Within (loopsOf s g o) p

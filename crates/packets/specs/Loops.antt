@@ -2,7 +2,7 @@
 use mathlib.Core.Path.{refl}
 use Rattle.laws.specs.Axis.{up-grows}
 use Rattle.laws.specs.NestOnce.{Apart, Steady, Plain, Back}
-use Rattle.packets.specs.Tile.{Sheet, precincts}
+use Rattle.packets.specs.Tile.{Sheet}
 use Rattle.packets.specs.Orders.{Order, lrcp, rlcp, rpcl, pcrl, cprl, other, Range}
 use Rattle.packets.specs.Positions.{loopsOf, met, numberAt}
 

@@ -1,6 +1,6 @@
 -- What soundness means (01, 'Sound means'): the tests of `Sound` as plain facts, and that the tests are true exactly if the facts hold. Assumes nothing.
 use mathlib.Core.Path.{_≡_, refl}
-use mathlib.Core.Bool.{Bool, true, false, _&&_, false≢true}
+use mathlib.Core.Bool.{Bool, true, _&&_, false≢true}
 use mathlib.Core.List.{List, List·Memᴰ as In}
 use mathlib.Core.Logic.{_↔_, _⊎_}
 use Prim.Native.Nat.{ℕ, zero, suc, _%_, _≤_, _<_}

@@ -1,6 +1,6 @@
 -- Which nexts pass over no hit (Strided): those that are at most the next multiple of every step, as strides that divide it. Assumes nothing.
-use mathlib.Core.Path.{_≡_, refl}
-use mathlib.Core.Bool.{Bool, true, false}
+use mathlib.Core.Path.{_≡_}
+use mathlib.Core.Bool.{true}
 use mathlib.Core.Logic.{⊎-elim}
 use Prim.Native.Nat.{ℕ, _*_, _%_, _≤_, _<_}
 use native.Mathlib.Nat.{le-refl, mul-pos, mod-eq-zero-of-dvd, dvd-of-mod-eq-zero, dvd-trans, div-zero}
@@ -8,10 +8,9 @@ use native.Mathlib.Omega.{arith}
 use lib.Pow.{pow-pos}
 use lib.Dec.{ltb}
 use borrow.Author.Tests.{ltb-true}
-use Rattle.laws.specs.Cases.{le-or-lt, and-true}
+use Rattle.laws.specs.Cases.{le-or-lt, and-true, cond-some}
 use Rattle.laws.specs.Stride.{stride, stride-grows, stride-multiple, between}
 use Rattle.laws.specs.NestOnce.{Within}
-use Rattle.geometry.specs.Precinct.{pick}
 use Rattle.geometry.specs.Line.{Line, boundOf, low, high, count, hitAt}
 use Rattle.geometry.specs.Hits.{count-none, factors, no-hit-between}
 use Rattle.packets.specs.Tile.{Sheet, lineX, lineY, resOf, width, height, precincts}
@@ -48,11 +47,10 @@ met-has s q e =
 
 -- a resolution with precincts is one that the component has, and each axis has a step
 pub has-precincts : (s : Sheet) (c r : ℕ) → 0 < precincts s c r → (r < resOf (s .st) c) × (1 ≤ lineX s c r .d) × (1 ≤ lineY s c r .d)
-has-precincts s c r = by (ltb r (resOf (s .st) c)) refl
-  where
-    by : (t : Bool) → ltb r (resOf (s .st) c) ≡ t → 0 < pick t (width s c r * height s c r) 0 → (r < resOf (s .st) c) × (1 ≤ lineX s c r .d) × (1 ≤ lineY s c r .d)
-    by true e h = let f = factors (width s c r) (height s c r) h in (ltb-true r _ e, some-step (lineX s c r) (f .0), some-step (lineY s c r) (f .1))
-    by false e h = omega arith
+has-precincts s c r h =
+    let some = cond-some (ltb r (resOf (s .st) c)) (width s c r * height s c r) h in
+    let f = factors (width s c r) (height s c r) (some .1) in
+    (ltb-true r _ (some .0), some-step (lineX s c r) (f .0), some-step (lineY s c r) (f .1))
 
 -- NEXTS BY STEPS. What is at most the next multiple of the step of each hit may be next
 module _ (s : Sheet) (g : Range) (w : For) (p : Position) where

@@ -1,6 +1,6 @@
 -- Orders by number, and the ranges of a progression (01, 'Ranges and orders').
 use Prim.Native.Nat.{ℕ, zero, suc, min}
-use mathlib.Core.Bool.{Bool, true, false, _&&_}
+use mathlib.Core.Bool.{Bool, cond, _&&_}
 use lib.Dec.{ltb, leb, eqb}
 use lib.IntN.{ℤ, pos, negsuc}
 use Rattle.packets.specs.declared.state.Progression.{Progression}
@@ -33,10 +33,6 @@ pub record Range : Type 0 where
   pub compno0 : ℕ
   pub compno1 : ℕ
 
-abbrev pub pickRange : Bool → Range → Range → Range
-pickRange true a b = a
-pickRange false a b = b
-
 -- 01: kind 5 sets everything: all layers, all components, resolutions up to the largest
 abbrev pub wholeTile : State → Range
 wholeTile st = record { layno1 = st .layers; resno0 = 0; resno1 = st .«max_res»; compno0 = 0; compno1 = st .components }
@@ -47,7 +43,7 @@ volume st q =
     record { layno1 = min (q .layno1) (st .layers); resno0 = q .resno0; resno1 = q .resno1; compno0 = q .compno0; compno1 = q .compno1 }
 
 unfoldable pub rangeOf : State → Progression → Range
-rangeOf st q = pickRange (eqb (q .kind) 5) (wholeTile st) (volume st q)
+rangeOf st q = cond (eqb (q .kind) 5) (wholeTile st) (volume st q)
 
 -- 01: a progression with compno0 ≥ components or compno1 > components has no positions
 abbrev pub componentsGood : State → Range → Bool

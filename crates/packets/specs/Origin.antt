@@ -1,17 +1,15 @@
 -- Where a sound state comes from: it is what setup answers for some sheet, and what setup answers is sound. Assumes nothing.
 use mathlib.Core.Path.{_≡_, refl, sym, ap, _∙_}
-use mathlib.Core.Bool.{Bool, true, false}
+use mathlib.Core.Bool.{true}
 use mathlib.Core.List.{List, _++_}
 use mathlib.Core.Logic.{_↔_}
 use Prim.Native.Nat.{ℕ, _-_, _≤_}
-use native.Mathlib.Omega.{arith}
 use lib.ListN.{length, take, drop, take-append-drop}
 use lib.Seq.{take-at}
-use lib.Dec.{leb, eqb}
+use lib.Dec.{eqb}
 use lib.IntN.{pos, negsuc}
-use borrow.Author.Tests.{le-leb, leb-true, eqb-true, eqb-false}
+use borrow.Author.Tests.{le-leb, eqb-true}
 use Rattle.laws.specs.Cases.{split}
-use Rattle.geometry.specs.Precinct.{pick}
 use Rattle.words.specs.Words.{over}
 use Rattle.words.specs.Laws.{Bytes}
 use Rattle.packets.specs.Sheet.{readVerdict, fieldsOf}
@@ -22,6 +20,7 @@ use Rattle.packets.specs.Sound.{stateSound}
 use Rattle.packets.specs.Calls.{Setup, setupVerdict, accepted, setupOf}
 use Rattle.packets.specs.Accepted.{read-means}
 use Rattle.packets.specs.SetupSound.{setup-sound}
+use Rattle.packets.specs.WholeRun.{setup-passed, setup-accepts}
 use Rattle.packets.specs.Readback.{table-length}
 use Rattle.packets.specs.Meaning.{sound-means}
 use Rattle.packets.specs.Written.{written}
@@ -93,18 +92,9 @@ pub record SetUpBy (st : State) (table marks b : List ℕ) : Type 0 where
   pub answers : setupOf b table marks .said .state ≡ st
   pub writes : setupOf b table marks .table ≡ table
 
--- a choice that gives 0 passed its test, where failing it gives another number
-pick-zero : (t : Bool) (a n : ℕ) → (t ≡ false → n ≡ 0 → ⊥) → pick t a n ≡ 0 → (t ≡ true) × (a ≡ 0)
-pick-zero true a n h e = (refl, e)
-pick-zero false a n h e = absurd (h refl e)
-
 module _ (st : State) (table marks b : List ℕ) where
   abbrev v : ℕ
   v = setupVerdict b table marks
-
-  taken : v ≡ 0 → setupOf b table marks ≡ accepted b table marks
-  unfolding setupOf
-  taken e = rw e
 
   none-refused : setupOf b table marks .said .number ≡ pos 0 → v ≡ 0
   unfolding setupOf
@@ -120,31 +110,25 @@ module _ (st : State) (table marks b : List ℕ) where
 
   -- what the call says, and what is tested: each from the other
   pub from-call : SetUpBy st table marks b → SetUpFrom st table marks b
-  unfolding setupVerdict
   from-call f =
       let z : v ≡ 0 = none-refused (f .accepts) in
-      let e : accepted b table marks ≡ setupOf b table marks = sym (taken z) in
-      let t : State = reported (sheetIn b) in
-      let there : t ≡ st = ap (λ (r : Setup). r .said .state) e ∙ f .answers in
-      let read = pick-zero (eqb (readVerdict b) 0) _ (readVerdict b) (eqb-false (readVerdict b) 0) z in
-      let grid = pick-zero (gridAgreed (sheetIn b)) _ 4 (λ t n. omega arith) (read .1) in
-      let few = pick-zero (leb (needed t) 65536) _ 5 (λ t n. omega arith) (grid .1) in
-      let many = pick-zero (leb (needed t) (length marks)) _ 6 (λ t n. omega arith) (few .1) in
-      let long = pick-zero (leb (tableBytes t) (length table)) 0 7 (λ t n. omega arith) (many .1) in
+      let p = setup-passed b table marks z in
+      let e : accepted b table marks ≡ setupOf b table marks = sym (setup-accepts b table marks z) in
+      let there : reported (sheetIn b) ≡ st = ap (λ (r : Setup). r .said .state) e ∙ f .answers in
       record {
         bytes = f .bytes;
-        accepted = eqb-true (readVerdict b) 0 (read .0);
-        agreed = grid .0;
-        few = rw there at (leb-true (needed t) 65536 (few .0));
-        marks-long = rw there at (leb-true (needed t) (length marks) (many .0));
-        table-long = rw there at (leb-true (tableBytes t) (length table) (long .0));
+        accepted = p .read;
+        agreed = p .grid;
+        few = rw there at (p .few);
+        marks-long = rw there at (p .enough);
+        table-long = rw there at (p .room);
         answered = sym there;
         filled = lies st table b (sym there) (ap (λ (r : Setup). r .table) e ∙ f .writes);
       }
 
   pub call-from : SetUpFrom st table marks b → SetUpBy st table marks b
   call-from f =
-      let e = taken (passed f) in
+      let e = setup-accepts b table marks (passed f) in
       record {
         bytes = f .bytes;
         accepts = ap (λ (r : Setup). r .said .number) e;

@@ -1,11 +1,10 @@
 -- The positions of a progression: the standard's plain loops (T.800 B.12.1) within 01's ranges, testing every grid point of the tile in orders 2 to 4.
 use Prim.Native.Nat.{ℕ, _+_, _*_}
-use mathlib.Core.Bool.{Bool, true, false, _&&_}
+use mathlib.Core.Bool.{Bool, false, cond, _&&_}
 use mathlib.Core.List.{List, [], _∷_}
 use lib.Dec.{ltb}
 use Rattle.laws.specs.Axis.{up}
 use Rattle.laws.specs.Nest.{Loop, nest}
-use Rattle.geometry.specs.Precinct.{pick}
 use Rattle.geometry.specs.Line.{hitAt, columnOf}
 use Rattle.packets.specs.State.{origin}
 use Rattle.packets.specs.Tile.{Sheet, lineX, lineY, width, precincts}
@@ -96,7 +95,7 @@ everyPrecinct s = precinctsFrom (λ p. 0) (λ p. precincts s (p .compno) (p .res
 
 -- the precinct that is met at the point, if one is
 abbrev pub thePrecinct : Sheet → Loop Position
-thePrecinct s = precinctsFrom (numberAt s) (λ p. pick (met s p) (numberAt s p + 1) (numberAt s p))
+thePrecinct s = precinctsFrom (numberAt s) (λ p. cond (met s p) (numberAt s p + 1) (numberAt s p))
 
 -- T.800 B.12.1.1 to B.12.1.5: the loops of an order, outermost first
 abbrev pub loopsOf : Sheet → Range → Order → List (Loop Position)
@@ -116,13 +115,9 @@ hasPositions s g pcrl = componentsGood (s .st) g
 hasPositions s g cprl = componentsGood (s .st) g
 hasPositions s g other = false
 
-abbrev pub pickList : {A : Type 0} → Bool → List A → List A → List A
-pickList true a b = a
-pickList false a b = b
-
 -- the positions of a progression, in order
 unfoldable pub positionsIn : Sheet → Range → Order → List Position
-positionsIn s g o = let l = nest (loopsOf s g o) origin in pickList (hasPositions s g o) l []
+positionsIn s g o = let l = nest (loopsOf s g o) origin in cond (hasPositions s g o) l []
 
 abbrev pub positionsOf : Sheet → Progression → List Position
 positionsOf s q = positionsIn s (rangeOf (s .st) q) (orderOf (q .prg))

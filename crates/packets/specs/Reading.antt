@@ -1,30 +1,19 @@
 -- A sheet that is read without a refusal: every record is good where it stands, and none is missing or left over. Assumes nothing.
 use mathlib.Core.Path.{_≡_, refl, subst}
-use mathlib.Core.Bool.{Bool, true, false, _&&_}
+use mathlib.Core.Bool.{false, cond, _&&_}
 use mathlib.Core.List.{List}
 use mathlib.Core.Logic.{⊎-elim}
 use Prim.Native.Nat.{ℕ, zero, suc, _+_, _-_, _*_, _/_, _%_, _≤_, _<_}
-use native.Mathlib.Nat.{div-add-mod'}
-use native.Mathlib.Numerals.{add-one}
 use native.Mathlib.Omega.{arith}
 use lib.ListN.{length}
-use lib.Dec.{ltb, leb, eqb}
-use borrow.Author.Tests.{lt-ltb, le-ltb, ltb-true, leb-true, eqb-true, eqb-false, eq-eqb}
-use Rattle.laws.specs.Cases.{le-or-lt, and-true, split}
-use Rattle.geometry.specs.Precinct.{pick}
+use lib.Dec.{ltb, eqb}
+use borrow.Author.Tests.{lt-ltb, ltb-true, leb-true, eqb-true, eqb-false}
+use Rattle.laws.specs.Cases.{le-or-lt, and-true, split, cond-zero}
 use Rattle.packets.specs.Sheet.{wd, Due, due, recordVerdict, dueBehind, complete, readFrom, readVerdict, lengthGood, tileVerdict, componentVerdict, resolutionVerdict, progressionVerdict, componentRecord, resolutionRecord, progressionRecord}
 
--- a choice that gives 0, where the other way does not
-pick-zero : (t : Bool) (a b : ℕ) → (b ≡ 0 → ⊥) → pick t a b ≡ 0 → (t ≡ true) × (a ≡ 0)
-pick-zero true a b n e = (refl, e)
-pick-zero false a b n e = absurd (n e)
-
 -- a verdict that is 0 lets the reading go on
-pick-on : (v rest : ℕ) → pick (eqb v 0) rest v ≡ 0 → (v ≡ 0) × (rest ≡ 0)
-pick-on v rest e =
-    split (eqb v 0)
-    (λ t. (eqb-true v 0 t, rw t at e))
-    (λ t. absurd (eqb-false v 0 t (rw t at e)))
+goes-on : (v rest : ℕ) → cond (eqb v 0) rest v ≡ 0 → (v ≡ 0) × (rest ≡ 0)
+goes-on v rest e = let z = cond-zero (eqb v 0) rest v (eqb-false v 0) e in (eqb-true v 0 (z .0), z .1)
 
 -- one record was read: n records were left, the first had the verdict v, and `rest` is the reading of those behind it
 record Next (n v : ℕ) (rest : ℕ → ℕ) : Type 0 where
@@ -40,7 +29,7 @@ module _ (s : List ℕ) (count : ℕ) where
   unfolding readFrom
   due-there zero i d c e = absurd (let z : _≡_ {A = ℕ} 2 0 = rw c at e in let n : ⊥ = omega arith in n)
   due-there (suc n) i d c e =
-      let w = pick-on (recordVerdict s count i d) (readFrom s count n (i + 1) (dueBehind s i d)) e in
+      let w = goes-on (recordVerdict s count i d) (readFrom s count n (i + 1) (dueBehind s i d)) e in
       record { left = n; more = omega arith; fine = w .0; on = w .1 }
 
   not-complete : (r c p : ℕ) → 0 < r + c + p → complete (due r c p) ≡ false
@@ -172,8 +161,8 @@ pub record Read (s : List ℕ) : Type 0 where
 pub read-good : (s : List ℕ) → readVerdict s ≡ 0 → Read s
 unfolding readVerdict componentRecord
 read-good s e =
-    let a = pick-zero (lengthGood s) _ 1 (λ z. omega arith) e in
-    let b = pick-on (tileVerdict s 0) _ (a .1) in
+    let a = cond-zero (lengthGood s) _ 1 (λ t z. omega arith) e in
+    let b = goes-on (tileVerdict s 0) _ (a .1) in
     let g = and-true (ltb 0 (length s)) _ (a .0) in
     let h = and-true (eqb (length s % 32) 0) _ (g .1) in
     let some = ltb-true 0 (length s) (g .0) in

@@ -4,8 +4,8 @@ use mathlib.Core.List.{List, _++_}
 use Prim.Native.Nat.{ℕ, _+_, _*_, _^_, _≤_, _<_}
 use native.Mathlib.Omega.{arith}
 use lib.ListN.{length}
-use Rattle.laws.specs.Below.{sumBelow}
-use Rattle.laws.specs.Bounded.{Bounded, bounded-each, bounded-append, bounded-gather, sum-most}
+use Rattle.laws.specs.Below.{sumBelow, sum-most}
+use Rattle.laws.specs.Bounded.{Bounded, bounded-each, bounded-append, bounded-gather}
 use Rattle.words.specs.Laws.{Bytes}
 use Rattle.words.specs.Exact.{words-are-bytes}
 use Rattle.packets.specs.Sheet.{wd, componentRecord, resolutionRecord, progressionRecord}

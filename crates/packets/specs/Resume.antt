@@ -13,7 +13,6 @@ use Rattle.packets.specs.Orders.{Order, lrcp, rlcp, rpcl, pcrl, cprl, ot
 use Rattle.packets.specs.Positions.{loopsOf, hasPositions, positionsIn, numberAt}
 use Rattle.packets.specs.Same.{same}
 use Rattle.packets.specs.Loops.{loops-apart}
-use Rattle.packets.specs.Met.{MetAt}
 use Rattle.packets.specs.Inside.{positions-nest, in-positions, in-met}
 use Rattle.packets.specs.declared.cursor.Position.{Position}
 

@@ -1,9 +1,8 @@
 -- THE RUN (demand 3): from marks that are 0 where they are needed, the steps of all progressions in turn list the plain loops' packets in order, one already
 -- listed left out, each exactly once; of the marks needed those alone are set; and the whole run is that same run. Assumes nothing.
 use mathlib.Core.Path.{_≡_, refl, sym, ap, _∙_, subst}
-use mathlib.Core.Bool.{Bool, true, false}
+use mathlib.Core.Bool.{Bool, true, false, cond}
 use mathlib.Core.List.{List, [], _∷_, _++_, map, List·Memᴰ as In, Memᴰ·of-map as in-of-map}
-use mathlib.Core.Option.{some, none}
 use Prim.Native.Nat.{ℕ, zero, suc, _+_, _≤_, _<_}
 use native.Mathlib.Omega.{arith}
 use lib.ListN.{length, getD}
@@ -13,13 +12,13 @@ use Rattle.laws.specs.Cases.{and-true}
 use Rattle.laws.specs.Axis.{span}
 use Rattle.laws.specs.Spans.{span-head, span-end}
 use Rattle.laws.specs.Lists.{NoRepeats}
-use Rattle.laws.specs.Runs.{Answer, Packet, Ended, Cursor, fresh, at, ended, Ran, run, stepBy, stepOf, onward, seek, mark, after as behindCursor, run-lists, finished, unlisted, marked}
+use Rattle.laws.specs.Runs.{Answer, Packet, Ended, Cursor, fresh, at, ended, Ran, run, stepBy, stepOf, onward, seek, mark, after as behindCursor, run-lists, unlisted, marked}
 use Rattle.laws.specs.Listing.{length-marked}
 use Rattle.laws.specs.AllRuns.{Listing, listing, runAll, run-all, NoneRepeats, Below, Complete, run-all-complete}
 use Rattle.packets.specs.State.{freshCursor}
 use Rattle.packets.specs.Tile.{needed, indexOf}
 use Rattle.packets.specs.Table.{sheetAt}
-use Rattle.packets.specs.Orders.{orderOf, Range, rangeOf, pickRange, wholeTile, volume}
+use Rattle.packets.specs.Orders.{orderOf, rangeOf, wholeTile, volume}
 use Rattle.packets.specs.Grid.{changeOf, gridAgreed}
 use Rattle.packets.specs.Sound.{tileGood, componentsSound, progressionsSound, tableSound, reportsSound, stateSound, positionsFor, sound}
 use Rattle.packets.specs.Good.{Good}
@@ -125,7 +124,7 @@ pub layers-within : (st : State) (q : Progression) → rangeOf st q .layno1 ≤ 
 unfolding rangeOf
 layers-within st q = by (eqb (q .kind) 5)
   where
-    by : (t : Bool) → pickRange t (wholeTile st) (volume st q) .layno1 ≤ st .layers
+    by : (t : Bool) → cond t (wholeTile st) (volume st q) .layno1 ≤ st .layers
     by true = omega arith
     by false = omega arith
 

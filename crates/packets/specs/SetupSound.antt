@@ -1,23 +1,23 @@
 -- Setup's answer is sound: the state and the table that it writes describe the sheet that was read, and meet every test of soundness. Assumes nothing.
 use mathlib.Core.Path.{_≡_, refl, sym, ap, _∙_}
-use mathlib.Core.Bool.{Bool, true, false, _&&_}
+use mathlib.Core.Bool.{true}
 use mathlib.Core.List.{List}
-use Prim.Native.Nat.{ℕ, _+_, _-_, _*_, _^_, _≤_, _<_}
+use Prim.Native.Nat.{ℕ, _-_, _^_, _≤_, _<_}
 use native.Mathlib.Omega.{arith}
-use lib.ListN.{length, getD, replicate, length-replicate}
-use lib.Dec.{ltb, leb, eqb}
-use borrow.Author.Tests.{leb-true, le-leb, eq-eqb, lt-ltb}
+use lib.ListN.{length, getD}
+use lib.Dec.{leb}
+use borrow.Author.Tests.{leb-true, le-leb, eq-eqb}
 use Rattle.laws.specs.Cases.{and-true, and-both}
 use Rattle.laws.specs.Pointwise.{all-true}
 use Rattle.words.specs.Words.{over}
 use Rattle.words.specs.Laws.{Bytes, word-small, over-length}
-use Rattle.geometry.specs.Line.{Line, step, count}
+use Rattle.geometry.specs.Line.{count}
 use Rattle.geometry.specs.Hits.{Ordered, count-small}
-use Rattle.packets.specs.Sheet.{wd, within, fieldsOf, tileRange, exponentRange, componentRange}
+use Rattle.packets.specs.Sheet.{wd, within, fieldsOf}
 use Rattle.packets.specs.Tile.{Sheet, dxOf, dyOf, resOf, levelOf, lineX, lineY, width, height, reported, needed, entriesBefore, tableBytes}
 use Rattle.packets.specs.Grid.{gridAgreed}
 use Rattle.packets.specs.Table.{entry, tableOf, entryWord, sheetAt, sheetIn}
-use Rattle.packets.specs.Sound.{tileGood, componentsSound, progressionsSound, entrySound, tableSound, reportsSound, marksSound, stateSound}
+use Rattle.packets.specs.Sound.{tileGood, componentsSound, progressionsSound, entrySound, tableSound, reportsSound, stateSound}
 use Rattle.packets.specs.Readback.{table-length, table-word}
 use Rattle.packets.specs.Reading.{Read}
 use Rattle.packets.specs.Fields.{tile-good, component-range, exponent-range, components-sound, progressions-sound}

@@ -1,13 +1,12 @@
 -- The sheet (01, 'The sheet'): its records read in order, the first refusal -1, -2, -3, and the fields of a sheet that has none.
 use Prim.Native.Nat.{ℕ, zero, suc, _+_, _-_, _*_, _/_, _%_, _^_}
-use mathlib.Core.Bool.{Bool, true, false, _&&_, _||_}
+use mathlib.Core.Bool.{Bool, true, cond, _&&_}
 use mathlib.Core.List.{List, _++_, map}
-use lib.ListN.{length, replicate, getD}
+use lib.ListN.{length, replicate}
 use lib.Dec.{ltb, leb, eqb}
 use lib.IntN.{ℤ, pos, negsuc}
 use Rattle.laws.specs.Axis.{span}
 use Rattle.laws.specs.Below.{allBelow}
-use Rattle.geometry.specs.Precinct.{pick}
 use Rattle.words.specs.Words.{wordAt}
 use Rattle.packets.specs.State.{noProgression}
 use Rattle.packets.specs.declared.state.Progression.{Progression}
@@ -26,7 +25,7 @@ within lo hi x = leb lo x && leb x hi
 
 -- 01: within a record kind and unnamed words come before ranges. A verdict is the number that a refusal carries, or 0
 abbrev pub judged : Bool → Bool → ℕ
-judged shape range = pick shape (pick range 0 3) 2
+judged shape range = cond shape (cond range 0 3) 2
 
 -- 01, the ranges, field by field
 abbrev pub tileRange : ℕ → ℕ → ℕ → ℕ → ℕ → ℕ → ℕ → Bool
@@ -59,7 +58,7 @@ abbrev pub wholeTileVerdict : List ℕ → ℕ → ℕ → ℕ
 wholeTileVerdict s count i = judged (eqb (wd s i 0) 5 && (unnamed s i 2 && eqb count 1)) true
 
 abbrev pub progressionVerdict : List ℕ → ℕ → ℕ → ℕ
-progressionVerdict s count i = pick (eqb (wd s i 0) 5) (wholeTileVerdict s count i) (volumeVerdict s i)
+progressionVerdict s count i = cond (eqb (wd s i 0) 5) (wholeTileVerdict s count i) (volumeVerdict s i)
 
 -- what is still due: resolutions of the component at hand, components, progressions
 pub record Due : Type 0 where
@@ -70,21 +69,17 @@ pub record Due : Type 0 where
 abbrev pub due : ℕ → ℕ → ℕ → Due
 due r c p = record { resolutions = r; components = c; progressions = p }
 
-abbrev pub pickDue : Bool → Due → Due → Due
-pickDue true a b = a
-pickDue false a b = b
-
 -- 01: each component record is followed by its resolutions; after the last component stand the progressions; a record left over is -2
 unfoldable pub recordVerdict : List ℕ → ℕ → ℕ → Due → ℕ
 recordVerdict s count i d =
-    pick (ltb 0 (d .resolutions)) (resolutionVerdict s i)
-    (pick (ltb 0 (d .components)) (componentVerdict s i) (pick (ltb 0 (d .progressions)) (progressionVerdict s count i) 2))
+    cond (ltb 0 (d .resolutions)) (resolutionVerdict s i)
+    (cond (ltb 0 (d .components)) (componentVerdict s i) (cond (ltb 0 (d .progressions)) (progressionVerdict s count i) 2))
 
 -- what is due behind record i
 unfoldable pub dueBehind : List ℕ → ℕ → Due → Due
 dueBehind s i d =
-    pickDue (ltb 0 (d .resolutions)) (due (d .resolutions - 1) (d .components) (d .progressions))
-    (pickDue (ltb 0 (d .components)) (due (wd s i 3) (d .components - 1) (d .progressions)) (due 0 0 (d .progressions - 1)))
+    cond (ltb 0 (d .resolutions)) (due (d .resolutions - 1) (d .components) (d .progressions))
+    (cond (ltb 0 (d .components)) (due (wd s i 3) (d .components - 1) (d .progressions)) (due 0 0 (d .progressions - 1)))
 
 -- 01: a record missing is -2
 abbrev pub complete : Due → Bool
@@ -92,11 +87,11 @@ complete d = eqb (d .resolutions) 0 && (eqb (d .components) 0 && eqb (d .progres
 
 -- n records from record i on, in order; the first bad one decides
 unfoldable pub readFrom : List ℕ → ℕ → ℕ → ℕ → Due → ℕ
-readFrom s count zero i d = pick (complete d) 0 2
+readFrom s count zero i d = cond (complete d) 0 2
 readFrom s count (suc n) i d =
     let rest = readFrom s count n (i + 1) (dueBehind s i d) in
     let v = recordVerdict s count i d in
-    pick (eqb v 0) rest v
+    cond (eqb v 0) rest v
 
 -- 01: -1 for a sheet that is empty, not a multiple of 32 bytes, or over 577 records
 abbrev pub lengthGood : List ℕ → Bool
@@ -107,7 +102,7 @@ unfoldable pub readVerdict : List ℕ → ℕ
 readVerdict s =
     let rest = readFrom s (wd s 0 7) (length s / 32 - 1) 1 (due 0 (wd s 0 6) (wd s 0 7)) in
     let v = tileVerdict s 0 in
-    pick (lengthGood s) (pick (eqb v 0) rest v) 1
+    cond (lengthGood s) (cond (eqb v 0) rest v) 1
 
 -- THE FIELDS, by where their records stand. The record of component c, and of its resolution r
 unfoldable pub componentRecord : List ℕ → ℕ → ℕ
@@ -121,13 +116,9 @@ resolutionRecord s c r = componentRecord s c + 1 + r
 abbrev pub progressionRecord : List ℕ → ℕ → ℕ
 progressionRecord s k = componentRecord s (wd s 0 6) + k
 
-abbrev pub pickZ : Bool → ℤ → ℤ → ℤ
-pickZ true a b = a
-pickZ false a b = b
-
 -- 01: prg is read as signed (two's complement)
 abbrev pub signedOf : ℕ → ℤ
-signedOf w = pickZ (ltb w (2 ^ 31)) (pos w) (negsuc (2 ^ 32 - 1 - w))
+signedOf w = cond (ltb w (2 ^ 31)) (pos w) (negsuc (2 ^ 32 - 1 - w))
 
 unfoldable pub progressionAt : List ℕ → ℕ → Progression
 progressionAt s i =

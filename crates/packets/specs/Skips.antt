@@ -4,9 +4,8 @@ use mathlib.Core.Path.{_≡_, refl, _∙_}
 use mathlib.Core.List.{List, _∷_, _++_}
 use Prim.Native.Nat.{ℕ, _≤_, _<_, min}
 use native.Mathlib.Omega.{arith}
-use Rattle.laws.specs.Axis.{up-grows}
 use Rattle.laws.specs.Nest.{Loop, nest, resumed, later, Fresh}
-use Rattle.laws.specs.NestOnce.{Within, Apart}
+use Rattle.laws.specs.NestOnce.{Within}
 use Rattle.laws.specs.NestStride.{withNext, nest-inner, nest-inside}
 use Rattle.laws.specs.NestClip.{nest-same-next}
 use Rattle.laws.specs.NestSkip.{turn-skip}
@@ -14,7 +13,6 @@ use Rattle.packets.specs.State.{origin}
 use Rattle.packets.specs.Tile.{Sheet}
 use Rattle.packets.specs.Orders.{Order, lrcp, rlcp, rpcl, pcrl, cprl, other, Range}
 use Rattle.packets.specs.Positions.{rows, columns}
-use Rattle.packets.specs.Loops.{loops-apart}
 use Rattle.packets.specs.Strided.{For, oneResolution, oneComponent, everything, pointsFor, outerLoops, innerLoops, packetLoops, pointLoops, strided, NextRow, NextColumn, outer-within, row-free, row-passed, column-passed}
 use Rattle.packets.specs.declared.cursor.Position.{Position}
 
@@ -62,12 +60,3 @@ module _ (s : Sheet) (g : Range) where
   pub strided-clip : (nx ny : Position → ℕ → ℕ) (o : Order)
       → nest (strided s g nx ny o) origin ≡ nest (strided s g (λ p x. min (nx p x) (s .st .tx1)) (λ p y. min (ny p y) (s .st .ty1)) o) origin
   strided-clip nx ny o = strided-same nx ny (λ p x. min (nx p x) (s .st .tx1)) (λ p y. min (ny p y) (s .st .ty1)) o (λ p i x h. omega arith) (λ p i y h. omega arith)
-
-  -- where the nexts grow everywhere, every loop sets a number of its own that grows: what the laws of resuming ask
-  pub strided-apart : (nx ny : Position → ℕ → ℕ) → ((p : Position) (x : ℕ) → x < nx p x) → ((p : Position) (y : ℕ) → y < ny p y) → (o : Order) → Apart (strided s g nx ny o)
-  strided-apart nx ny gx gy lrcp = loops-apart s g lrcp
-  strided-apart nx ny gx gy rlcp = loops-apart s g rlcp
-  strided-apart nx ny gx gy rpcl = search (refl, up-grows) depth 24
-  strided-apart nx ny gx gy pcrl = search (refl, up-grows) depth 24
-  strided-apart nx ny gx gy cprl = search (refl, up-grows) depth 24
-  strided-apart nx ny gx gy other = tt

@@ -1,7 +1,7 @@
 -- T.800's own loops (B.12.1.1 to B.12.1.5), which do not compute the precinct of a point but count: 'for the next precinct, k, if one exists'.
 -- That they list the same packets as 01's formula is the theorem of Counts.antt.
 use Prim.Native.Nat.{ℕ}
-use mathlib.Core.Bool.{Bool, _&&_}
+use mathlib.Core.Bool.{Bool, cond, _&&_}
 use mathlib.Core.List.{List, [], _∷_}
 use lib.Dec.{ltb, eqb}
 use Rattle.laws.specs.Gather.{gather}
@@ -11,7 +11,7 @@ use Rattle.geometry.specs.Line.{hitAt}
 use Rattle.packets.specs.State.{origin}
 use Rattle.packets.specs.Tile.{Sheet, resOf, lineX, lineY, precincts}
 use Rattle.packets.specs.Orders.{Order, lrcp, rlcp, rpcl, pcrl, cprl, other, Range}
-use Rattle.packets.specs.Positions.{layers, resolutions, components, rows, columns, everyPrecinct, hasPositions, pickList}
+use Rattle.packets.specs.Positions.{layers, resolutions, components, rows, columns, everyPrecinct, hasPositions}
 use Rattle.packets.specs.declared.cursor.Position.{Position}
 
 -- the point test of B.12.1.3 to B.12.1.5, both lines needed; a resolution that the component has not got is passed over
@@ -52,4 +52,4 @@ standardLoops s g other = []
 
 -- the packets of a progression, in order; 01: none where the component range is not good
 unfoldable pub standardIn : Sheet → Range → Order → List Position
-standardIn s g o = let l = standardLoops s g o in pickList (hasPositions s g o) l []
+standardIn s g o = let l = standardLoops s g o in cond (hasPositions s g o) l []

@@ -1,20 +1,20 @@
 -- A step from a sound cursor searches its progression and answers a sound cursor; an ended cursor answers 0 for good; a refusal changes nothing. Assumes nothing.
 use mathlib.Core.Path.{_≡_, refl, sym, ap, _∙_}
-use mathlib.Core.Bool.{Bool, true, false, _&&_}
-use mathlib.Core.List.{List, [], List·Memᴰ as In}
+use mathlib.Core.Bool.{true, false}
+use mathlib.Core.List.{List}
 use mathlib.Core.Option.{some, none}
-use Prim.Native.Nat.{ℕ, _≤_, _<_}
+use Prim.Native.Nat.{ℕ, _<_}
 use lib.ListN.{length, length-set}
-use lib.Dec.{ltb, leb}
+use lib.Dec.{ltb}
 use lib.IntN.{pos}
 use borrow.Author.Tests.{lt-ltb}
 use Rattle.laws.specs.Cases.{and-true, and-both}
 use Rattle.laws.specs.Runs.{Answer, Packet, Ended, Cursor, fresh, at, ended, seek, mark, after as behindCursor, found-in}
 use Rattle.packets.specs.State.{freshCursor, endedCursor}
-use Rattle.packets.specs.Tile.{needed, indexOf}
-use Rattle.packets.specs.Sound.{tileGood, componentsSound, progressionsSound, tableSound, reportsSound, marksSound, stateSound, placeSound, positionsFor, cursorSound, sound, isIn}
+use Rattle.packets.specs.Tile.{indexOf}
+use Rattle.packets.specs.Sound.{stateSound, placeSound, positionsFor, cursorSound, sound}
 use Rattle.packets.specs.Same.{same}
-use Rattle.packets.specs.Calls.{after, refusal, Step, stepBy, stepOf, openOf}
+use Rattle.packets.specs.Calls.{after, refusal, stepBy, stepOf, openOf}
 use Rattle.packets.specs.Inside.{in-is}
 use Rattle.packets.specs.declared.state.State.{State}
 use Rattle.packets.specs.declared.cursor.Position.{Position}

@@ -1,7 +1,7 @@
 -- THEOREM 2, Stride: in orders 2 to 4 the loops over rows and columns may go by any nexts that grow and pass over no hit; the positions are those of the
 -- loops over every point of the tile. Assumes nothing.
 use mathlib.Core.Path.{_≡_, refl, _∙_, sym}
-use mathlib.Core.Bool.{Bool, true, false}
+use mathlib.Core.Bool.{Bool, true, false, cond}
 use mathlib.Core.List.{List, [], _∷_, _++_, List·Memᴰ as In}
 use Prim.Native.Nat.{ℕ, _+_, _≤_, _<_}
 use native.Mathlib.Omega.{arith}
@@ -15,7 +15,7 @@ use Rattle.laws.specs.NestStride.{withNext, nest-stride, nest-inner, nest-insid
 use Rattle.packets.specs.State.{origin}
 use Rattle.packets.specs.Tile.{Sheet}
 use Rattle.packets.specs.Orders.{Order, lrcp, rlcp, rpcl, pcrl, cprl, other, Range}
-use Rattle.packets.specs.Positions.{met, numberAt, layers, resolutions, components, rows, columns, thePrecinct, loopsOf, hasPositions, pickList, positionsIn}
+use Rattle.packets.specs.Positions.{met, numberAt, layers, resolutions, components, rows, columns, thePrecinct, loopsOf, hasPositions, positionsIn}
 use Rattle.packets.specs.declared.cursor.Position.{Position}
 
 -- THE NEST. What an order goes through all points of the tile for
@@ -199,11 +199,11 @@ module _ (s : Sheet) (g : Range) where
 
   -- so the positions of a progression are what the strided loops list, if it has any
   pub strided-listed : (nx ny : Position → ℕ → ℕ) (o : Order) → (hasPositions s g o ≡ true → nest (strided s g nx ny o) origin ≡ nest (loopsOf s g o) origin)
-      → pickList (hasPositions s g o) (nest (strided s g nx ny o) origin) [] ≡ positionsIn s g o
+      → cond (hasPositions s g o) (nest (strided s g nx ny o) origin) [] ≡ positionsIn s g o
   unfolding positionsIn
   strided-listed nx ny o h = by (hasPositions s g o) h
     where
       by : (t : Bool) → (t ≡ true → nest (strided s g nx ny o) origin ≡ nest (loopsOf s g o) origin)
-          → pickList t (nest (strided s g nx ny o) origin) [] ≡ pickList t (nest (loopsOf s g o) origin) []
+          → cond t (nest (strided s g nx ny o) origin) [] ≡ cond t (nest (loopsOf s g o) origin) []
       by true e = e refl
       by false e = refl

@@ -1,13 +1,12 @@
 -- What the listing program prints (01, 'Listing program and its sheets').
-use Prim.Native.Nat.{ℕ, zero, suc, _+_, _-_, _*_, _/_, _%_}
-use mathlib.Core.Bool.{Bool, true, false}
+use Prim.Native.Nat.{ℕ, zero, suc, _+_, _/_, _%_}
+use mathlib.Core.Bool.{cond}
 use mathlib.Core.List.{List, [], _∷_, _++_}
 use lib.ListN.{length, replicate}
 use lib.Dec.{ltb, eqb}
 use Rattle.laws.specs.Gather.{gather}
-use Rattle.packets.specs.Tile.{needed, reported, tableBytes}
+use Rattle.packets.specs.Tile.{reported, tableBytes}
 use Rattle.packets.specs.Table.{sheetIn}
-use Rattle.packets.specs.Positions.{pickList}
 use Rattle.packets.specs.Calls.{accepted, setupVerdict, listed}
 use Rattle.packets.specs.declared.cursor.Position.{Position}
 
@@ -17,7 +16,7 @@ digitsUpTo zero n = []
 digitsUpTo (suc k) n =
     let front = digitsUpTo k (n / 10) in
     let last = (48 + n % 10) ∷ [] in
-    pickList (ltb n 10) last (front ++ last)
+    cond (ltb n 10) last (front ++ last)
 
 -- a 32-bit number has at most ten
 abbrev pub decimal : ℕ → List ℕ
@@ -43,4 +42,4 @@ textOf sheet =
     let v = setupVerdict sheet table marks in
     let u = accepted sheet table marks in
     let lines = linesOf (listed (u .said .state) (u .table)) in
-    pickList (eqb v 0) lines (refusedLine v)
+    cond (eqb v 0) lines (refusedLine v)

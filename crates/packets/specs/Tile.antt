@@ -1,11 +1,10 @@
 -- The tile as a sheet describes it: the bounds and precincts of every component and resolution (01, 'Geometry'; T.800 B.3, B.5, B.6), what setup reports,
 -- strides, marks needed, and the mark of a position.
 use Prim.Native.Nat.{ℕ, _+_, _-_, _*_}
-use mathlib.Core.Bool.{Bool, true, false}
+use mathlib.Core.Bool.{cond}
 use lib.ListN.{getD}
 use lib.Dec.{ltb, leb}
 use Rattle.laws.specs.Below.{maxBelow, minBelow, sumBelow}
-use Rattle.geometry.specs.Precinct.{pick}
 use Rattle.geometry.specs.Line.{Line, step, count}
 use Rattle.packets.specs.declared.state.State.{State}
 use Rattle.packets.specs.declared.cursor.Position.{Position}
@@ -46,7 +45,7 @@ height s c r = count (lineY s c r)
 
 -- T.800 B.6: numprecincts; none for a resolution that the component has not got
 abbrev pub precincts : Sheet → ℕ → ℕ → ℕ
-precincts s c r = pick (ltb r (resOf (s .st) c)) (width s c r * height s c r) 0
+precincts s c r = cond (ltb r (resOf (s .st) c)) (width s c r * height s c r) 0
 
 -- 01: the largest precinct count and the largest number of resolutions
 unfoldable pub maxPrec : Sheet → ℕ
@@ -57,7 +56,7 @@ maxRes st = maxBelow (resOf st) (st .components)
 
 -- 01: dx_min and dy_min start at 0x7fffffff and count only steps that fit 32 bits
 abbrev pub fitting : ℕ → ℕ
-fitting n = pick (leb n 4294967295) n 2147483647
+fitting n = cond (leb n 4294967295) n 2147483647
 
 unfoldable pub dxMin : Sheet → ℕ
 dxMin s = minBelow 2147483647 (λ c. minBelow 2147483647 (λ r. fitting (step (lineX s c r))) (resOf (s .st) c)) (s .st .components)

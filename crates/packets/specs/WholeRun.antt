@@ -1,24 +1,23 @@
 -- The whole run is setup, followed by the calls that a host would make: every progression in turn until it ends. Assumes nothing.
-use mathlib.Core.Path.{_≡_, refl, sym, ap, _∙_}
-use mathlib.Core.Bool.{Bool, true, false}
-use mathlib.Core.List.{List, _++_}
-use Prim.Native.Nat.{ℕ, _+_, _-_, _*_, _≤_, _<_}
+use mathlib.Core.Path.{_≡_, sym, ap}
+use mathlib.Core.Bool.{true}
+use mathlib.Core.List.{List}
+use Prim.Native.Nat.{ℕ, _-_, _≤_, _<_}
 use native.Mathlib.Omega.{arith}
 use lib.ListN.{length, getD, drop, replicate, length-replicate, getD-replicate, List·getD-append}
 use lib.Dec.{leb, eqb}
 use lib.IntN.{pos}
 use borrow.Author.Tests.{leb-true, eqb-true, eqb-false, eq-eqb}
-use Rattle.laws.specs.Cases.{split}
+use Rattle.laws.specs.Cases.{split, cond-zero}
 use Rattle.laws.specs.AllRuns.{Listing, Complete}
 use Rattle.words.specs.Words.{over}
 use Rattle.words.specs.Laws.{Bytes, over-length}
-use Rattle.geometry.specs.Precinct.{pick}
 use Rattle.packets.specs.Sheet.{readVerdict, fieldsOf}
 use Rattle.packets.specs.Tile.{reported, needed, indexOf, entriesBefore, tableBytes}
 use Rattle.packets.specs.Grid.{gridAgreed}
-use Rattle.packets.specs.Table.{tableOf, sheetIn, sheetAt}
+use Rattle.packets.specs.Table.{sheetIn, sheetAt}
 use Rattle.packets.specs.Sound.{stateSound, positionsFor}
-use Rattle.packets.specs.Calls.{refusal, Setup, setupVerdict, accepted, turnedAway, setupOf, listed, recordsOf, Run, runVerdict, ranOver, wholeRunOf}
+use Rattle.packets.specs.Calls.{refusal, Setup, setupVerdict, accepted, turnedAway, setupOf, recordsOf, runVerdict, ranOver, wholeRunOf}
 use Rattle.packets.specs.Host.{callRuns}
 use Rattle.packets.specs.Reading.{read-good}
 use Rattle.packets.specs.SetupSound.{setup-sound}
@@ -27,11 +26,6 @@ use Rattle.packets.specs.Good.{Good}
 use Rattle.packets.specs.Run.{all, run-complete, run-listed}
 use Rattle.packets.specs.declared.state.State.{State}
 use Rattle.packets.specs.declared.cursor.Position.{Position}
-
--- a choice of verdicts that gives none
-passed : (t : Bool) (a n : ℕ) → 0 < n → pick t a n ≡ 0 → (t ≡ true) × (a ≡ 0)
-passed true a n h e = (refl, e)
-passed false a n h e = absurd (let z : ⊥ = omega arith in z)
 
 -- what an accepted sheet has passed
 pub record Passed (sheet table marks : List ℕ) : Type 0 where
@@ -43,22 +37,14 @@ pub record Passed (sheet table marks : List ℕ) : Type 0 where
 
 pub setup-passed : (sheet table marks : List ℕ) → setupVerdict sheet table marks ≡ 0 → Passed sheet table marks
 unfolding setupVerdict
-setup-passed sheet table marks e = by (eqb (readVerdict sheet) 0) refl e
-  where
-    st : State
-    st = reported (sheetIn sheet)
-
-    rest : ℕ
-    rest = pick (gridAgreed (sheetIn sheet)) (pick (leb (needed st) 65536) (pick (leb (needed st) (length marks)) (pick (leb (tableBytes st) (length table)) 0 7) 6) 5) 4
-
-    by : (t : Bool) → eqb (readVerdict sheet) 0 ≡ t → pick t rest (readVerdict sheet) ≡ 0 → Passed sheet table marks
-    by true t e =
-        let a = passed (gridAgreed (sheetIn sheet)) _ 4 (omega arith) e in
-        let b = passed (leb (needed st) 65536) _ 5 (omega arith) (a .1) in
-        let c = passed (leb (needed st) (length marks)) _ 6 (omega arith) (b .1) in
-        let d = passed (leb (tableBytes st) (length table)) 0 7 (omega arith) (c .1) in
-        record { read = eqb-true _ _ t; grid = a .0; few = leb-true _ _ (b .0); enough = leb-true _ _ (c .0); room = leb-true _ _ (d .0) }
-    by false t e = absurd (eqb-false _ _ t e)
+setup-passed sheet table marks e =
+    let st : State = reported (sheetIn sheet) in
+    let read = cond-zero (eqb (readVerdict sheet) 0) _ (readVerdict sheet) (eqb-false (readVerdict sheet) 0) e in
+    let grid = cond-zero (gridAgreed (sheetIn sheet)) _ 4 (λ t z. omega arith) (read .1) in
+    let few = cond-zero (leb (needed st) 65536) _ 5 (λ t z. omega arith) (grid .1) in
+    let enough = cond-zero (leb (needed st) (length marks)) _ 6 (λ t z. omega arith) (few .1) in
+    let room = cond-zero (leb (tableBytes st) (length table)) 0 7 (λ t z. omega arith) (enough .1) in
+    record { read = eqb-true _ _ (read .0); grid = grid .0; few = leb-true _ _ (few .0); enough = leb-true _ _ (enough .0); room = leb-true _ _ (room .0) }
 
 -- a setup without a refusal is accepted; one with a refusal leaves everything lent as it was
 module _ (sheet table marks : List ℕ) where

@@ -1,6 +1,6 @@
 -- What reading a sheet answers (01: -1, -2, -3): the fields, or a refusal with the empty state.
 use Prim.Native.Nat.{ℕ, zero, suc}
-use mathlib.Core.Bool.{Bool, true, false}
+use mathlib.Core.Bool.{cond}
 use mathlib.Core.List.{List}
 use lib.Dec.{eqb}
 use lib.IntN.{pos}
@@ -24,11 +24,7 @@ verdictOf (suc zero) = Length
 verdictOf (suc (suc zero)) = Shape
 verdictOf (suc (suc (suc n))) = Range
 
-abbrev pub pickSaid : Bool → SetUpSaid → SetUpSaid → SetUpSaid
-pickSaid true a b = a
-pickSaid false a b = b
-
 -- the fields of a sheet with no refusal; else the refusal, which carries only its number
 unfoldable pub readOf : List ℕ → SetUpSaid
 readOf s =
-    pickSaid (eqb (readVerdict s) 0) (record { number = pos 0; state = fieldsOf s }) (record { number = refusal (readVerdict s); state = emptyState })
+    cond (eqb (readVerdict s) 0) (record { number = pos 0; state = fieldsOf s }) (record { number = refusal (readVerdict s); state = emptyState })

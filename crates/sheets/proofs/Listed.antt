@@ -1,6 +1,6 @@
 -- The tests of a position, in the order in which the code makes them, are true just where the progression lists it. Assumes nothing.
 use mathlib.Core.Path.{_≡_, refl, sym, _∙_}
-use mathlib.Core.Bool.{Bool, true, false, _&&_, true≢false, false≢true}
+use mathlib.Core.Bool.{Bool, true, false, _&&_, true≢false}
 use mathlib.Core.List.{List, List·Memᴰ as In}
 use Prim.Native.Nat.{ℕ, _≤_, _<_}
 use native.Mathlib.Omega.{arith}
@@ -17,7 +17,7 @@ use Rattle.packets.specs.Sound.{isIn}
 use Rattle.packets.specs.Meaning.{sound-means, sound-good}
 use Rattle.packets.specs.Good.{Good}
 use Rattle.packets.specs.Met.{MetAt}
-use Rattle.packets.specs.Inside.{byPoints, is-in, in-is, positions-none, in-positions, in-range, in-met, in-still, listed-point, listed-still, InRange, inside}
+use Rattle.packets.specs.Inside.{byPoints, has-good, is-in, in-is, positions-none, in-positions, in-range, in-met, in-still, listed-point, listed-still, InRange, inside}
 use Rattle.packets.specs.declared.state.State.{State}
 use Rattle.packets.specs.declared.cursor.Position.{Position}
 use Rattle.sheets.specs.Ranges.{orderNumber}
@@ -63,18 +63,10 @@ module _ (s : Sheet) (g : Range) (p : Position) where
       let i = w .1 in
       (h .0, (h .1, (i .layer, (i .resolution-from, (i .resolution-to, (i .component-from, i .component-to)))))))
 
-  has-good : (o : Order) → hasPositions s g o ≡ true → componentsGood (s .st) g ≡ true
-  has-good lrcp h = h
-  has-good rlcp h = h
-  has-good rpcl h = h
-  has-good pcrl h = h
-  has-good cprl h = h
-  has-good other h = absurd (false≢true h)
-
   pub out-of-range : (o : Order) → inRange g (s .st .components) p ≡ false → false ≡ listedBy o
   out-of-range o e =
       not-listed o
-      (λ m. true≢false (sym (range-means .1 (has-good o (in-positions s g o p .0 m .0), in-range s g o p m)) ∙ e))
+      (λ m. true≢false (sym (range-means .1 (has-good s g o (in-positions s g o p .0 m .0), in-range s g o p m)) ∙ e))
 
   -- a position in range is of a component that there is
   pub component-there : inRange g (s .st .components) p ≡ true → p .compno < s .st .components

@@ -19,7 +19,7 @@ use Rattle.packets.specs.Tile.{Sheet, resOf, maxPrec, maxRes, reported, needed,
 use Rattle.packets.specs.Grid.{gridAgreed}
 use Rattle.packets.specs.Table.{sheetIn, tableOf}
 use Rattle.packets.specs.Answers.{SetUpSaid, ofSetUp}
-use Rattle.packets.specs.Calls.{refusal, setupVerdict, accepted}
+use Rattle.packets.specs.Calls.{refusal, setupVerdict}
 use Rattle.packets.specs.Signed.{negative}
 use Rattle.packets.specs.Reading.{read-good}
 use Rattle.packets.specs.Fields.{tile-good, components-sound, progressions-sound}

@@ -1,6 +1,6 @@
 -- What a survey of a table finds, with the fields of a state in range, is what soundness tests. Assumes nothing.
 use mathlib.Core.Path.{_≡_, refl, sym, ap, _∙_}
-use mathlib.Core.Bool.{Bool, true, false, _&&_}
+use mathlib.Core.Bool.{Bool, true, false, cond, _&&_}
 use mathlib.Core.List.{List}
 use Prim.Native.Nat.{ℕ, _-_, _*_, _≤_, _<_}
 use native.Mathlib.Omega.{arith}
@@ -17,7 +17,7 @@ use Rattle.packets.specs.Sound.{tileGood, componentsSound, progressionsSound, t
 use Rattle.packets.specs.declared.state.State.{State}
 use Rattle.survey.specs.declared.Findings.{Findings}
 use Rattle.survey.specs.declared.Source.the-variants.{Entries}
-use Rattle.survey.specs.Survey.{sheetFrom, surveyGood, surveyed, pickSurvey, noSurvey, surveyOf}
+use Rattle.survey.specs.Survey.{sheetFrom, surveyGood, surveyed, noSurvey, surveyOf}
 use Rattle.survey.specs.Sources.{survey-entries, entries-sound}
 use Rattle.sheets.specs.Reports.{sameReports}
 use Rattle.sheets.proofs.InRange.{tile-counts, tile-some}
@@ -113,7 +113,7 @@ module _ (st : State) (table marks : List ℕ) where
     unfolding surveyOf
     state-by = by (surveyGood table Entries true st) good-is ∙ sym (state-is ∙ rw fields)
       where
-        by : (t : Bool) → t ≡ tableSound st table → findingsTest st marks (pickSurvey t (surveyed (sheetFrom table Entries st)) noSurvey) ≡ (tableSound st table && rest)
+        by : (t : Bool) → t ≡ tableSound st table → findingsTest st marks (cond t (surveyed (sheetFrom table Entries st)) noSurvey) ≡ (tableSound st table && rest)
         by false e = rw (← e)
         by true e =
             rw (← e)

@@ -1,22 +1,18 @@
 -- A place of the arrays of a state: what stands there is in range, or is nothing, by whether the place is taken.
 use Prim.Native.Nat.{ℕ}
-use mathlib.Core.Bool.{Bool, true, false, _&&_, _||_}
+use mathlib.Core.Bool.{Bool, cond, _&&_, _||_}
 use lib.Dec.{eqb}
 use Rattle.packets.specs.Sheet.{componentRange, progressionRange}
 use Rattle.packets.specs.Sound.{isZero, noRange}
 use Rattle.packets.specs.declared.state.Progression.{Progression}
 
-abbrev pub choose : Bool → Bool → Bool → Bool
-choose true a b = a
-choose false a b = b
-
 -- a component, or none
 unfoldable pub componentFits : Bool → ℕ → ℕ → ℕ → Bool
-componentFits there dx dy resolutions = choose there (componentRange dx dy resolutions) (eqb dx 0 && (eqb dy 0 && eqb resolutions 0))
+componentFits there dx dy resolutions = cond there (componentRange dx dy resolutions) (eqb dx 0 && (eqb dy 0 && eqb resolutions 0))
 
 -- a progression, which may stand alone, or none
 unfoldable pub progressionFits : Bool → Bool → Progression → Bool
 progressionFits there alone q =
-    choose there
+    cond there
     ((eqb (q .kind) 4 && progressionRange (q .resno0) (q .layno1) (q .resno1)) || (eqb (q .kind) 5 && (alone && noRange q)))
     (eqb (q .kind) 0 && (isZero (q .prg) && noRange q))

@@ -1,6 +1,6 @@
 -- What a place of a cursor is tested by, in the words of the geometry.
 use Prim.Native.Nat.{ℕ, _+_, _*_, _≤_, _<_}
-use mathlib.Core.Bool.{Bool, _&&_}
+use mathlib.Core.Bool.{Bool, cond, _&&_}
 use mathlib.Core.List.{List}
 use lib.Dec.{ltb, leb, eqb}
 use Rattle.geometry.specs.Line.{Line, hitAt, columnOf}
@@ -9,7 +9,6 @@ use Rattle.packets.specs.Tile.{Sheet, lineX, lineY, width, precincts, resOf}
 use Rattle.packets.specs.Meaning.{Sound}
 use Rattle.packets.specs.declared.state.State.{State}
 use Rattle.packets.specs.declared.cursor.Position.{Position}
-use Rattle.sheets.specs.Fields.{choose}
 use Rattle.sheets.specs.declared.axis.Axis.{Axis}
 
 -- the code's axis in the words of the geometry
@@ -45,7 +44,7 @@ metOf x y wide n p = ltb 0 n && (onAxis y (p .y) && (onAxis x (p .x) && eqb (p .
 -- of a sheet's resolution: the test of a position that is in range, by the number of the order
 unfoldable pub positionTest : Sheet → ℕ → Position → Bool
 positionTest s order p =
-    choose (ltb order 2)
+    cond (ltb order 2)
     (countedOf (precincts s (p .compno) (p .resno)) p)
     (metOf (lineX s (p .compno) (p .resno)) (lineY s (p .compno) (p .resno)) (width s (p .compno) (p .resno)) (precincts s (p .compno) (p .resno)) p)
 

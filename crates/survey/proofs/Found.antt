@@ -1,18 +1,16 @@
 -- What the survey finds once every component is passed: each number is the sheet's. Assumes nothing.
 use mathlib.Core.Path.{_≡_, sym, ap, _∙_}
-use mathlib.Core.Bool.{Bool, true, _&&_}
+use mathlib.Core.Bool.{Bool, true, cond, _&&_}
 use mathlib.Core.List.{List}
 use Prim.Native.Nat.{ℕ, _+_, _≤_, _<_, min}
 use lib.Dec.{leb}
 use borrow.Author.Tests.{le-leb, leb-true}
 use Rattle.laws.specs.Cases.{and-true}
 use Rattle.laws.specs.Below.{all-at}
-use Rattle.geometry.specs.Precinct.{pick}
 use Rattle.packets.specs.Tile.{Sheet, dxOf, dyOf, resOf, levelOf, maxPrec, maxRes, dxMin, dyMin, reported, needed}
-use Rattle.packets.specs.Grid.{stepX, stepY, smallest, stepsFit, stepsDivide, gridAgreed}
+use Rattle.packets.specs.Grid.{stepX, stepY, stepsFit, stepsDivide, gridAgreed}
 use Rattle.packets.specs.declared.state.State.{State}
 use Rattle.survey.specs.Passing.{wantedOf, multiples, hasWanted, agreedOf, neededOf, marksOf, findingsOf}
-use Rattle.survey.specs.declared.Findings.{Findings}
 use Rattle.survey.specs.declared.sums.Sums.{Sums}
 use Rattle.survey.specs.declared.places.Places.{Places}
 use Rattle.survey.proofs.Ranges.{Ranged, in-range}
@@ -96,8 +94,8 @@ module _ {e : List ℕ} {p : Places} {check : Bool} {st : State} {place : ℕ} {
         good = true;
         grid = grid-is i;
         few = leb (neededOf (st .layers) (res-is i) (st .components) (prec-is i)) 65536;
-        needed = pick (leb (neededOf (st .layers) (res-is i) (st .components) (prec-is i)) 65536) (neededOf (st .layers) (res-is i) (st .components) (prec-is i)) 0;
-        «max_prec» = pick (leb (neededOf (st .layers) (res-is i) (st .components) (prec-is i)) 65536) (prec-is i) 0;
+        needed = cond (leb (neededOf (st .layers) (res-is i) (st .components) (prec-is i)) 65536) (neededOf (st .layers) (res-is i) (st .components) (prec-is i)) 0;
+        «max_prec» = cond (leb (neededOf (st .layers) (res-is i) (st .components) (prec-is i)) 65536) (prec-is i) 0;
         «max_res» = res-is i;
         «dx_min» = dx-is i;
         «dy_min» = dy-is i;

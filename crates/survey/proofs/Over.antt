@@ -1,7 +1,7 @@
 -- The survey over any places: the exponents of resolution r of component c stand at q c r. With the places of a source it is the survey of that source.
 -- A component's sums are what the sheet has of it. Assumes nothing.
 use mathlib.Core.Path.{_≡_, refl, subst, ap}
-use mathlib.Core.Bool.{Bool, true, _&&_, _||_, not}
+use mathlib.Core.Bool.{Bool, true, cond, _&&_, _||_, not}
 use mathlib.Core.List.{List}
 use Prim.Native.Nat.{ℕ, _+_, _-_, _*_, max}
 use lib.Dec.{leb, eqb}
@@ -9,14 +9,14 @@ use borrow.Author.Tests.{lt-ltb}
 use Rattle.laws.specs.Below.{allBelow, maxBelow, max-none, max-more, minBelow, min-none, min-more}
 use Rattle.laws.specs.Pointwise.{max-same}
 use Rattle.words.specs.Words.{wordAt}
-use Rattle.geometry.specs.Line.{step, count, boundOf}
+use Rattle.geometry.specs.Line.{count, boundOf}
 use Rattle.geometry.specs.declared.tile.Area.{Area}
 use Rattle.packets.specs.Sheet.{componentRange, exponentRange}
 use Rattle.packets.specs.Tile.{Sheet, dxOf, dyOf, resOf, width, height, precincts}
 use Rattle.packets.specs.Grid.{everywhere, stepX, stepY}
 use Rattle.packets.specs.declared.state.State.{State}
-use Rattle.survey.specs.Survey.{placeOf, surveyGood, surveyed, pickSurvey, noSurvey, surveyOf}
-use Rattle.survey.specs.Passing.{startSums, noSums, joinedSums, pickSums, countOf, entryFine, passed, resolutionSums, componentSums}
+use Rattle.survey.specs.Survey.{placeOf, surveyGood, surveyed, noSurvey, surveyOf}
+use Rattle.survey.specs.Passing.{startSums, noSums, joinedSums, countOf, entryFine, passed, resolutionSums, componentSums}
 use Rattle.survey.specs.declared.Source.{Source}
 use Rattle.survey.specs.declared.Findings.{Findings}
 use Rattle.survey.specs.declared.sums.Sums.{Sums}
@@ -41,7 +41,7 @@ unfoldable pub goodOver : List ℕ → (ℕ → ℕ → ℕ) → Bool → State 
 goodOver e q check st = leb (st .components) 16 && (allBelow (rangedAt st) (st .components) && everywhere st (entryOver e q st check))
 
 unfoldable pub foundOver : List ℕ → (ℕ → ℕ → ℕ) → Bool → State → Findings
-foundOver e q check st = pickSurvey (goodOver e q check st) (surveyed (sheetOver e q st)) noSurvey
+foundOver e q check st = cond (goodOver e q check st) (surveyed (sheetOver e q st)) noSurvey
 
 pub survey-over : (e : List ℕ) (at : Source) (check : Bool) (st : State) (q : ℕ → ℕ → ℕ) → placeOf at st ≡ q → surveyOf e at check st ≡ foundOver e q check st
 unfolding surveyOf surveyGood foundOver goodOver
@@ -92,13 +92,13 @@ sums-more s c =
 -- what the pass over a component gives
 pub component-is : (e : List ℕ) (q : ℕ → ℕ → ℕ) (check : Bool) (st : State) (c : ℕ)
     → componentSums e (q c) check (tileOf st) (dxOf st c) (dyOf st c) (resOf st c)
-    ≡ pickSums (rangedAt st c) (pickSums (fineAt e q st check c) (partSums (sheetOver e q st) c) noSums) noSums
+    ≡ cond (rangedAt st c) (cond (fineAt e q st check c) (partSums (sheetOver e q st) c) noSums) noSums
 unfolding componentSums resolutionSums passed entryFine countOf count boundOf
 component-is e q check st c =
     ap
     (λ (m : ℕ).
-    pickSums (rangedAt st c)
-    (pickSums (fineAt e q st check c)
+    cond (rangedAt st c)
+    (cond (fineAt e q st check c)
     (record {
       good = true;
       most = m;

@@ -7,23 +7,19 @@ use native.Mathlib.Omega.{arith}
 use lib.ListN.{length, replicate}
 use lib.Dec.{leb}
 use borrow.Author.Tests.{le-leb, lt-leb, leb-true}
-use Rattle.laws.specs.Cases.{and-true, and-false}
+use Rattle.laws.specs.Cases.{and-true, and-false, cond-told}
 use Rattle.laws.specs.Below.{allBelow, all-at, sum-most}
 use Rattle.packets.specs.Tile.{dxOf, dyOf, resOf, entriesBefore}
 use Rattle.packets.specs.Table.{tableWords}
 use Rattle.packets.specs.Readback.{words-length}
 use Rattle.packets.specs.Sheet.{componentRange}
 use Rattle.packets.specs.declared.state.State.{State}
-use Rattle.survey.specs.Survey.{sheetFrom, surveyGood, noSurvey, surveyed, pickSurvey, surveyOf, foundOf, keptOf}
+use Rattle.survey.specs.Survey.{sheetFrom, surveyGood, noSurvey, surveyed, surveyOf, foundOf, keptOf}
 use Rattle.survey.specs.Kept.{putNumbers}
 use Rattle.survey.specs.declared.Source.{Source}
 use Rattle.survey.specs.declared.Findings.{Findings}
 use Rattle.survey.proofs.Ranges.{in-range}
 use Rattle.survey.proofs.Keeping.{put-over}
-
-pick-good : (t : Bool) (a : Findings) → a .good ≡ true → pickSurvey t a noSurvey .good ≡ t
-pick-good true a h = h
-pick-good false a h = refl
 
 module _ (e : List ℕ) (at : Source) (check : Bool) (st : State) (old : List ℕ) where
   -- without room
@@ -43,7 +39,7 @@ module _ (e : List ℕ) (at : Source) (check : Bool) (st : State) (old : List �
 
     good-is : surveyOf e at check st .good ≡ surveyGood e at check st
     unfolding surveyOf
-    good-is = pick-good (surveyGood e at check st) (surveyed (sheetFrom e at st)) refl
+    good-is = cond-told (λ (f : Findings). f .good) (surveyGood e at check st) (surveyed (sheetFrom e at st)) noSurvey refl refl
 
     pub bad-kept : surveyOf e at check st .good ≡ false → replicate (length old) 0 ≡ keptOf e at check st old
     unfolding keptOf

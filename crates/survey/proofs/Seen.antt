@@ -1,6 +1,6 @@
 -- What the survey holds after c components, and its next turn: one component more, or nothing. Assumes nothing.
 use mathlib.Core.Path.{_≡_, refl, sym, ap, _∙_}
-use mathlib.Core.Bool.{Bool, true, false, _&&_, false≢true}
+use mathlib.Core.Bool.{Bool, true, false, cond, _&&_}
 use mathlib.Core.List.{List}
 use mathlib.Core.Logic.{⊎-elim}
 use Prim.Native.Nat.{ℕ, _+_, _*_, _≤_, _<_, max}
@@ -8,13 +8,13 @@ use native.Mathlib.Omega.{arith}
 use lib.ListN.{length, getD, set, replicate, length-set}
 use lib.Seq.{getD-set-same, getD-set-other}
 use borrow.Author.Tests.{lt-leb}
-use Rattle.laws.specs.Cases.{le-or-lt, and-false}
+use Rattle.laws.specs.Cases.{le-or-lt, and-true, and-false, cond-told, cond-and}
 use Rattle.laws.specs.Below.{allBelow, all-none, all-more, all-fails, maxBelow, max-none, max-more}
 use Rattle.packets.specs.Tile.{Sheet, dxOf, dyOf, resOf}
 use Rattle.packets.specs.Grid.{stepX, stepY}
 use Rattle.packets.specs.declared.state.State.{State}
 use Rattle.survey.specs.Survey.{noSurvey, surveyOf}
-use Rattle.survey.specs.Passing.{startSums, noSums, joinedSums, pickSums, componentSums, placesOf}
+use Rattle.survey.specs.Passing.{startSums, noSums, joinedSums, componentSums, placesOf}
 use Rattle.survey.specs.declared.Source.{Source}
 use Rattle.survey.specs.declared.sums.Sums.{Sums}
 use Rattle.survey.specs.declared.places.Places.{Places}
@@ -54,16 +54,6 @@ pub record Seen (e : List ℕ) (p : Places) (check : Bool) (st : State) (place :
   pub least-x : Holds (leastIn (stepX (sheetBy e p st)) st) c xs
   pub least-y : Holds (leastIn (stepY (sheetBy e p st)) st) c ys
 
-pick-both : (a b : Bool) (x : Sums) → pickSums a (pickSums b x noSums) noSums .good ≡ true → (a ≡ true) × (b ≡ true)
-pick-both true true x h = (refl, refl)
-pick-both true false x h = absurd (false≢true h)
-pick-both false b x h = absurd (false≢true h)
-
-pick-none : (a b : Bool) (x : Sums) → x .good ≡ true → pickSums a (pickSums b x noSums) noSums .good ≡ false → (a && b) ≡ false
-pick-none true true x g h = absurd (false≢true (sym h ∙ g))
-pick-none true false x g h = refl
-pick-none false b x g h = refl
-
 pub seen-none : (e : List ℕ) (p : Places) (check : Bool) (st : State) → Small p → Seen e p check st (p .first) startSums 0 (replicate 16 0) (replicate 16 0) 0
 seen-none e p check st small =
     let f = small .first in
@@ -85,11 +75,14 @@ module _ {e : List ℕ} {p : Places} {check : Bool} {st : State} {place : ℕ} {
     (s : Seen e p check st place all deep xs ys c) {one : Sums}
     (is : one ≡ componentSums e (λ i. place + p .apart * i) check (tileOf st) (dxOf st c) (dyOf st c) (resOf st c)) where
   -- the component's sums, by what it is
-  part : one ≡ pickSums (rangedAt st c) (pickSums (fineAt e (placeIn p st) st check c) (partSums (sheetBy e p st) c) noSums) noSums
-  part = rw (s .at) at is ∙ component-is e (placeIn p st) check st c
+  part : one ≡ cond (rangedAt st c && fineAt e (placeIn p st) st check c) (partSums (sheetBy e p st) c) noSums
+  part = rw (s .at) at is ∙ component-is e (placeIn p st) check st c ∙ cond-and (rangedAt st c) (fineAt e (placeIn p st) st check c) _ _
+
+  good-is : one .good ≡ (rangedAt st c && fineAt e (placeIn p st) st check c)
+  good-is = ap (λ (a : Sums). a .good) part ∙ cond-told (λ (a : Sums). a .good) _ (partSums (sheetBy e p st) c) noSums refl refl
 
   both : one .good ≡ true → (rangedAt st c ≡ true) × (fineAt e (placeIn p st) st check c ≡ true)
-  both g = pick-both (rangedAt st c) (fineAt e (placeIn p st) st check c) (partSums (sheetBy e p st) c) (sym (ap (λ (a : Sums). a .good) part) ∙ g)
+  both g = and-true (rangedAt st c) (fineAt e (placeIn p st) st check c) (sym good-is ∙ g)
 
   pub levels-few : one .good ≡ true → resOf st c ≤ 33
   levels-few g = in-range (dxOf st c) (dyOf st c) (resOf st c) (both g .0) .n-high
@@ -129,8 +122,7 @@ module _ {e : List ℕ} {p : Places} {check : Bool} {st : State} {place : ℕ} {
   pub seen-bad : c < st .components → one .good ≡ false → foundOver e (placeIn p st) check st ≡ noSurvey
   unfolding foundOver goodOver
   seen-bad h g =
-      let bad = pick-none (rangedAt st c) (fineAt e (placeIn p st) st check c) (partSums (sheetBy e p st) c) refl (sym (ap (λ (a : Sums). a .good) part) ∙ g) in
-      rw (none (rangedAt st) (fineAt e (placeIn p st) st check) c h bad, and-false)
+      rw (none (rangedAt st) (fineAt e (placeIn p st) st check) c h (sym good-is ∙ g), and-false)
     where
       none : (f g : ℕ → Bool) (c : ℕ) → c < st .components → (f c && g c) ≡ false → (allBelow f (st .components) && allBelow g (st .components)) ≡ false
       none f g c h bad = by (f c) refl bad

@@ -1,14 +1,14 @@
 -- What the functions of the survey hold while they pass over components and resolutions, over plain numbers.
 -- Passed.antt says what these are of a sheet.
 use Prim.Native.Nat.{ℕ, _+_, _-_, _*_, _%_, _^_, min, max}
-use mathlib.Core.Bool.{Bool, true, false, _&&_, _||_, not}
+use mathlib.Core.Bool.{Bool, true, false, cond, _&&_, _||_, not}
 use mathlib.Core.List.{List}
 use lib.ListN.{getD}
 use lib.Dec.{leb, eqb}
 use Rattle.laws.specs.Below.{allBelow, maxBelow, minBelow}
 use Rattle.laws.specs.Ceiling.{ceilDiv}
 use Rattle.words.specs.Words.{wordAt}
-use Rattle.geometry.specs.Precinct.{pick, across}
+use Rattle.geometry.specs.Precinct.{across}
 use Rattle.geometry.specs.declared.tile.Area.{Area}
 use Rattle.packets.specs.Sheet.{exponentRange, componentRange}
 use Rattle.packets.specs.Orders.{Order, lrcp, rlcp, rpcl, pcrl, cprl, other, orderOf}
@@ -50,10 +50,6 @@ joinedSums a b =
       «y_least» = min (a .«y_least») (b .«y_least»);
     }
 
-abbrev pub pickSums : Bool → Sums → Sums → Sums
-pickSums true a b = a
-pickSums false a b = b
-
 -- A RESOLUTION at some level, whose exponents stand at place p: whether its sizes and its exponents are good
 abbrev pub sizesAt : List ℕ → ℕ → Bool → ℕ → ℕ → Bool
 sizesAt e p check w h = not check || (eqb (wordAt e (p + 8)) w && eqb (wordAt e (p + 12)) h)
@@ -74,7 +70,7 @@ strideY e p y level = strideOf y level (wordAt e (p + 4))
 
 unfoldable pub entrySums : List ℕ → ℕ → Bool → Axis → Axis → ℕ → Sums → Sums
 entrySums e p check x y level a =
-    pickSums (entryFine e p check x y level)
+    cond (entryFine e p check x y level)
     (record {
       good = true;
       most = max (a .most) (precinctsAt e p x y level);
@@ -96,11 +92,11 @@ passed e q x y n k =
     }
 
 unfoldable pub resolutionSums : List ℕ → (ℕ → ℕ) → Bool → Axis → Axis → ℕ → Sums
-resolutionSums e q check x y n = pickSums (allBelow (λ r. entryFine e (q r) check x y (n - 1 - r)) n) (passed e q x y n n) noSums
+resolutionSums e q check x y n = cond (allBelow (λ r. entryFine e (q r) check x y (n - 1 - r)) n) (passed e q x y n n) noSums
 
 unfoldable pub componentSums : List ℕ → (ℕ → ℕ) → Bool → Area → ℕ → ℕ → ℕ → Sums
 componentSums e q check tile dx dy n =
-    pickSums (componentRange dx dy n) (resolutionSums e q check (axisOf (tile .x0) (tile .x1) dx) (axisOf (tile .y0) (tile .y1) dy) n) noSums
+    cond (componentRange dx dy n) (resolutionSums e q check (axisOf (tile .x0) (tile .x1) dx) (axisOf (tile .y0) (tile .y1) dy) n) noSums
 
 -- PLACES: of the first exponents, from a resolution to the next, and what stands between two components
 abbrev pub placesOf : Source → Places
@@ -137,8 +133,8 @@ unfoldable pub marksOf : ℕ → ℕ → ℕ → ℕ → Marks
 marksOf layers res components prec =
     record {
       few = leb (neededOf layers res components prec) 65536;
-      needed = pick (leb (neededOf layers res components prec) 65536) (neededOf layers res components prec) 0;
-      «max_prec» = pick (leb (neededOf layers res components prec) 65536) prec 0;
+      needed = cond (leb (neededOf layers res components prec) 65536) (neededOf layers res components prec) 0;
+      «max_prec» = cond (leb (neededOf layers res components prec) 65536) prec 0;
     }
 
 -- FINDINGS, from the sums of all components and the smallest steps of each

@@ -1,7 +1,7 @@
 -- What a survey is of a table and of a sheet: over entries it is of the sheet that a state and a table describe, over records of what the bytes of the sheet say.
 -- Assumes nothing.
 use mathlib.Core.Path.{_≡_, refl, ap, fun-ext}
-use mathlib.Core.Bool.{Bool, true, false, _&&_}
+use mathlib.Core.Bool.{Bool, true, false, cond, _&&_}
 use mathlib.Core.List.{List, [], _∷_}
 use Prim.Native.Nat.{ℕ, zero, suc, _+_, _*_, _≤_, _<_}
 use native.Mathlib.Nat.{le-mul-of-pos-right, mul-comm}
@@ -14,7 +14,6 @@ use Rattle.laws.specs.Below.{sumBelow}
 use Rattle.laws.specs.Pointwise.{all-true, span-same}
 use Rattle.words.specs.Words.{wordAt, over}
 use Rattle.geometry.specs.Line.{count}
-use Rattle.geometry.specs.Precinct.{pick}
 use Rattle.packets.specs.Sheet.{wd, within, componentRange, exponentRange, componentRecord, resolutionRecord, fieldsOf}
 use Rattle.packets.specs.Tile.{Sheet, dxOf, dyOf, resOf, levelOf, width, height, maxPrec, maxRes, dxMin, dyMin, reported, needed, entriesBefore}
 use Rattle.packets.specs.Grid.{gridAgreed}
@@ -120,8 +119,8 @@ module _ (b : List ℕ) where
           good = true;
           grid = grid i;
           few = leb (marks (prec i)) 65536;
-          needed = pick (leb (marks (prec i)) 65536) (marks (prec i)) 0;
-          «max_prec» = pick (leb (marks (prec i)) 65536) (prec i) 0;
+          needed = cond (leb (marks (prec i)) 65536) (marks (prec i)) 0;
+          «max_prec» = cond (leb (marks (prec i)) 65536) (prec i) 0;
           «max_res» = maxRes (fieldsOf b);
           «dx_min» = x i;
           «dy_min» = y i;

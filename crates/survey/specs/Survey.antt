@@ -1,12 +1,11 @@
 -- What setup and soundness have in common: the numbers that a state and its precinct exponents give, wherever the exponents stand.
 use Prim.Native.Nat.{ℕ, _+_, _*_}
-use mathlib.Core.Bool.{Bool, true, false, _&&_, _||_, not}
+use mathlib.Core.Bool.{Bool, true, false, cond, _&&_, _||_, not}
 use mathlib.Core.List.{List}
 use lib.ListN.{length, replicate}
 use lib.Dec.{leb, eqb}
 use Rattle.laws.specs.Below.{allBelow}
 use Rattle.words.specs.Words.{wordAt, over}
-use Rattle.geometry.specs.Precinct.{pick}
 use Rattle.packets.specs.Sheet.{componentRange, exponentRange}
 use Rattle.packets.specs.Tile.{Sheet, dxOf, dyOf, resOf, width, height, maxPrec, maxRes, dxMin, dyMin, reported, needed, entriesBefore}
 use Rattle.packets.specs.Table.{tableWords}
@@ -40,10 +39,6 @@ surveyGood e at check st =
     leb (st .components) 16
     && (allBelow (λ c. componentRange (dxOf st c) (dyOf st c) (resOf st c)) (st .components) && everywhere st (entryGood e at check st))
 
-abbrev pub pickSurvey : Bool → Findings → Findings → Findings
-pickSurvey true a b = a
-pickSurvey false a b = b
-
 -- nothing is known of what is out of range
 abbrev pub noSurvey : Findings
 noSurvey = record { good = false; grid = false; few = false; needed = 0; «max_prec» = 0; «max_res» = 0; «dx_min» = 0; «dy_min» = 0 }
@@ -55,15 +50,15 @@ surveyed s =
       good = true;
       grid = gridAgreed s;
       few = leb (needed (reported s)) 65536;
-      needed = pick (leb (needed (reported s)) 65536) (needed (reported s)) 0;
-      «max_prec» = pick (leb (needed (reported s)) 65536) (maxPrec s) 0;
+      needed = cond (leb (needed (reported s)) 65536) (needed (reported s)) 0;
+      «max_prec» = cond (leb (needed (reported s)) 65536) (maxPrec s) 0;
       «max_res» = maxRes (s .st);
       «dx_min» = dxMin s;
       «dy_min» = dyMin s;
     }
 
 unfoldable pub surveyOf : List ℕ → Source → Bool → State → Findings
-surveyOf e at check st = pickSurvey (surveyGood e at check st) (surveyed (sheetFrom e at st)) noSurvey
+surveyOf e at check st = cond (surveyGood e at check st) (surveyed (sheetFrom e at st)) noSurvey
 
 -- there is room to keep the words of the largest table
 abbrev roomy : List ℕ → Bool
@@ -71,12 +66,8 @@ roomy old = leb 2112 (length old)
 
 -- with room the survey, and without nothing
 unfoldable pub foundOf : List ℕ → Source → Bool → State → List ℕ → Findings
-foundOf e at check st old = pickSurvey (roomy old) (surveyOf e at check st) noSurvey
-
-abbrev pub pickKept : Bool → List ℕ → List ℕ → List ℕ
-pickKept true a b = a
-pickKept false a b = b
+foundOf e at check st old = cond (roomy old) (surveyOf e at check st) noSurvey
 
 -- what is kept: the words of the table, laid over the start; where nothing is found, zeros
 unfoldable pub keptOf : List ℕ → Source → Bool → State → List ℕ → List ℕ
-keptOf e at check st old = pickKept (roomy old && surveyGood e at check st) (over (tableWords (sheetFrom e at st)) old) (replicate (length old) 0)
+keptOf e at check st old = cond (roomy old && surveyGood e at check st) (over (tableWords (sheetFrom e at st)) old) (replicate (length old) 0)

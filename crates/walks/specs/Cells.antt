@@ -1,14 +1,13 @@
 -- What the prepared numbers answer at a point: they tell where there are precincts, where an axis meets one, and which it is. Assumes nothing.
 use Prim.Native.Nat.{ℕ, _+_, _-_, _*_, _/_, _%_, _≤_, _<_}
 use mathlib.Core.Path.{_≡_, refl, sym, ap, _∙_}
-use mathlib.Core.Bool.{Bool, true, false, not, _&&_, _||_}
+use mathlib.Core.Bool.{Bool, true, false, cond, not, _&&_, _||_}
 use mathlib.Core.List.{List}
 use native.Mathlib.Omega.{arith}
 use lib.Dec.{ltb, eqb}
 use borrow.Author.Tests.{ltb-true, lt-ltb, ne-eqb}
 use Rattle.laws.specs.Cases.{split}
-use Rattle.geometry.specs.Precinct.{pick}
-use Rattle.geometry.specs.Line.{Line, step, first, whole, hitAt, columnOf}
+use Rattle.geometry.specs.Line.{Line, step, whole, hitAt, columnOf}
 use Rattle.geometry.specs.Hits.{factors, hit-quotient, posStep}
 use Rattle.packets.specs.Tile.{Sheet, lineX, lineY, width, height, precincts}
 use Rattle.packets.specs.Good.{Good}
@@ -23,7 +22,7 @@ pub hit-law : (l : Line) (z : ℕ) → z < 4294967295 → hitAt l z ≡ hitBy (s
 unfolding hitAt
 hit-law l z h = ap (λ (t : Bool). eqb (z % step l) 0 || t) (by (whole l) (eqb z (l .t0)) refl)
   where
-    by : (t a : Bool) → eqb z (l .t0) ≡ a → (a && not t) ≡ eqb z (pick t 4294967295 (l .t0))
+    by : (t a : Bool) → eqb z (l .t0) ≡ a → (a && not t) ≡ eqb z (cond t 4294967295 (l .t0))
     by true true e = sym (ne-eqb z 4294967295 (λ q. omega arith))
     by true false e = sym (ne-eqb z 4294967295 (λ q. omega arith))
     by false true e = sym e

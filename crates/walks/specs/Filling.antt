@@ -1,6 +1,7 @@
 -- What was written is what the walks by points need. Assumes nothing.
 use Prim.Native.Nat.{ℕ, _+_, _-_, _*_, _/_, _%_, _^_, _≤_, _<_}
 use mathlib.Core.Path.{_≡_, refl, _∙_}
+use mathlib.Core.Bool.{cond}
 use mathlib.Core.List.{List}
 use mathlib.Core.Logic.{⊎-elim}
 use native.Mathlib.Nat.{mod-eq-of-lt}
@@ -11,7 +12,6 @@ use lib.Dec.{ltb, eqb}
 use borrow.Author.Tests.{le-ltb}
 use Rattle.laws.specs.Cases.{le-or-lt}
 use Rattle.words.specs.Words.{wordAt}
-use Rattle.geometry.specs.Precinct.{pick}
 use Rattle.geometry.specs.Line.{Line, boundOf, low, step}
 use Rattle.geometry.specs.Hits.{whole-law}
 use Rattle.packets.specs.Tile.{Sheet, lineX, lineY, resOf, precincts}
@@ -26,7 +26,7 @@ module _ (prep : List ℕ) (at t d level pd : ℕ) where
   stepped = set prep at (d * 2 ^ (pd + level) % 4294967296)
 
   abbrev started : List ℕ
-  started = set stepped (at + 2) (pick (eqb (boundOf t d level % 2 ^ pd) 0) 4294967295 t)
+  started = set stepped (at + 2) (cond (eqb (boundOf t d level % 2 ^ pd) 0) 4294967295 t)
 
   length-started : length started ≡ length prep
   length-started = simp length-set
@@ -49,7 +49,7 @@ module _ (prep : List ℕ) (at t d level pd : ℕ) where
     pub axis-step : getD (putAxis prep at t d level pd) at 0 ≡ d * 2 ^ (pd + level) % 4294967296
     axis-step = not-first at (omega arith) ∙ not-start at (omega arith) ∙ getD-set-same prep at _ 0 (omega arith)
 
-    pub axis-start : getD (putAxis prep at t d level pd) (at + 2) 0 ≡ pick (eqb (boundOf t d level % 2 ^ pd) 0) 4294967295 t
+    pub axis-start : getD (putAxis prep at t d level pd) (at + 2) 0 ≡ cond (eqb (boundOf t d level % 2 ^ pd) 0) 4294967295 t
     axis-start = not-first (at + 2) (omega arith) ∙ getD-set-same stepped (at + 2) _ 0 (rw (length-set prep at (d * 2 ^ (pd + level) % 4294967296)) (omega arith))
 
     pub axis-first : getD (putAxis prep at t d level pd) (at + 4) 0 ≡ boundOf t d level / 2 ^ pd
@@ -61,7 +61,7 @@ module _ (l : Line) where
   line-step : step l ≤ 4294967295 → step l % 4294967296 ≡ step l
   line-step h = mod-eq-of-lt (omega arith)
 
-  line-start : pick (eqb (low l % 2 ^ l .pd) 0) 4294967295 (l .t0) ≡ insideStart l
+  line-start : cond (eqb (low l % 2 ^ l .pd) 0) 4294967295 (l .t0) ≡ insideStart l
   line-start = rw (whole-law l)
 
 -- A RESOLUTION
@@ -73,7 +73,7 @@ module _ (prep : List ℕ) (at : ℕ) (table : List ℕ) (from level dx dy tx0 t
   count = wide * wordAt table (from + 12)
 
   abbrev after0 : List ℕ
-  after0 = set prep at (pick (ltb 0 count) wide 0)
+  after0 = set prep at (cond (ltb 0 count) wide 0)
 
   abbrev afterX : List ℕ
   afterX = putAxis after0 (at + 1) tx0 dx level (wordAt table from)
@@ -114,12 +114,12 @@ module _ (prep : List ℕ) (at : ℕ) (table : List ℕ) (from level dx dy tx0 t
 
   module _ (room : at + 6 < length prep) where
     in-x : at + 1 + 4 < length after0
-    in-x = rw (length-set prep at (pick (ltb 0 count) wide 0)) (omega arith)
+    in-x = rw (length-set prep at (cond (ltb 0 count) wide 0)) (omega arith)
 
     in-y : at + 2 + 4 < length afterX
     in-y = rw length-x (omega arith)
 
-    pub put-0 : getD (putEntry prep at table from level dx dy tx0 ty0) at 0 ≡ pick (ltb 0 (wordAt table (from + 8) * wordAt table (from + 12))) (wordAt table (from + 8)) 0
+    pub put-0 : getD (putEntry prep at table from level dx dy tx0 ty0) at 0 ≡ cond (ltb 0 (wordAt table (from + 8) * wordAt table (from + 12))) (wordAt table (from + 8)) 0
     put-0 =
         opened at ∙ over-y at (omega arith) (omega arith) (omega arith) ∙ over-x at (omega arith) (omega arith) (omega arith)
         ∙ getD-set-same prep at _ 0 (omega arith)
@@ -131,13 +131,13 @@ module _ (prep : List ℕ) (at : ℕ) (table : List ℕ) (from level dx dy tx0 t
     put-2 = opened (at + 2) ∙ axis-step afterX (at + 2) ty0 dy level (wordAt table (from + 4)) in-y
 
     pub put-3 : getD (putEntry prep at table from level dx dy tx0 ty0) (at + 3) 0
-        ≡ pick (eqb (boundOf tx0 dx level % 2 ^ wordAt table from) 0) 4294967295 tx0
+        ≡ cond (eqb (boundOf tx0 dx level % 2 ^ wordAt table from) 0) 4294967295 tx0
     put-3 =
         let i : at + 3 ≡ at + 1 + 2 = omega arith in
         rw i (opened (at + 1 + 2) ∙ over-y (at + 1 + 2) (omega arith) (omega arith) (omega arith) ∙ axis-start after0 (at + 1) tx0 dx level (wordAt table from) in-x)
 
     pub put-4 : getD (putEntry prep at table from level dx dy tx0 ty0) (at + 4) 0
-        ≡ pick (eqb (boundOf ty0 dy level % 2 ^ wordAt table (from + 4)) 0) 4294967295 ty0
+        ≡ cond (eqb (boundOf ty0 dy level % 2 ^ wordAt table (from + 4)) 0) 4294967295 ty0
     put-4 =
         let i : at + 4 ≡ at + 2 + 2 = omega arith in
         rw i (opened (at + 2 + 2) ∙ axis-start afterX (at + 2) ty0 dy level (wordAt table (from + 4)) in-y)

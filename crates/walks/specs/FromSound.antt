@@ -6,8 +6,7 @@ use mathlib.Core.Logic.{⊎-elim}
 use native.Mathlib.Omega.{arith}
 use lib.ListN.{getD}
 use Rattle.laws.specs.Cases.{le-or-lt}
-use Rattle.laws.specs.Below.{sumBelow}
-use Rattle.laws.specs.Bounded.{sum-most}
+use Rattle.laws.specs.Below.{sumBelow, sum-most}
 use Rattle.words.specs.Words.{wordAt}
 use Rattle.packets.specs.Tile.{resOf, width, height, precincts, entriesBefore, indexOf}
 use Rattle.packets.specs.Table.{sheetAt}

@@ -1,14 +1,13 @@
 -- What every loop of a walk keeps, for every sheet and range that the walk is ready for: nothing is found yet, and what is still to be searched answers
 -- as what was to be searched at entry. And what is known where the loops have been left. Assumes nothing.
-use mathlib.Core.Path.{_≡_, refl, sym, ap, _∙_}
+use mathlib.Core.Path.{_≡_, sym, ap, _∙_}
 use mathlib.Core.Bool.{Bool, true, false, false≢true}
 use mathlib.Core.List.{List, []}
 use Prim.Native.Nat.{ℕ}
-use Rattle.laws.specs.Runs.{Answer, Packet, Ended, seek}
+use Rattle.laws.specs.Runs.{Packet, Ended, seek}
 use Rattle.packets.specs.Tile.{Sheet, indexOf}
 use Rattle.packets.specs.Orders.{Range}
 use Rattle.packets.specs.declared.cursor.Position.{Position}
-use Rattle.walks.specs.Walk.{answerOf}
 use Rattle.walks.specs.declared.walk.Found.the-variants as found
 
 -- the walk is ready for a sheet and a range

@@ -1,9 +1,9 @@
 -- A row of a tile: the precincts that it meets, by component and resolution.
 use Prim.Native.Nat.{ℕ, _+_, _*_, _≤_, _<_}
 use mathlib.Core.Path.{_≡_}
+use mathlib.Core.Bool.{cond}
 use mathlib.Core.List.{List}
 use lib.ListN.{getD}
-use Rattle.geometry.specs.Precinct.{pick}
 use Rattle.geometry.specs.Line.{columnOf}
 use Rattle.packets.specs.Tile.{Sheet, lineY, width}
 use Rattle.packets.specs.InPlay.{playX}
@@ -11,7 +11,7 @@ use Rattle.walks.specs.Prepared.{InPlay, AtPoint, atRow}
 
 -- one more than the number of the row's first precinct; 0 where it meets none
 unfoldable pub rowOf : Sheet → ℕ → ℕ → ℕ → ℕ
-rowOf s r c y = pick (playX s (atRow y) c r) (columnOf (lineY s c r) y * width s c r + 1) 0
+rowOf s r c y = cond (playX s (atRow y) c r) (columnOf (lineY s c r) y * width s c r + 1) 0
 
 -- resolutions r0 to r1 of components c0 to c1, in a row of the tile
 pub record AtRow (s : Sheet) (prep : List ℕ) (r0 r1 c0 c1 y : ℕ) : Type 0 where

@@ -1,14 +1,14 @@
 -- What every loop of a listing keeps, for every sheet and range that it is ready for: the run's end from what is still to be listed is that from what was to be
 -- listed at entry. Assumes nothing.
 use mathlib.Core.Path.{_≡_, refl, sym, ap, _∙_}
-use mathlib.Core.Bool.{Bool, true, false}
+use mathlib.Core.Bool.{true, false, cond}
 use mathlib.Core.List.{List, [], _∷_}
 use native.Mathlib.Omega.{arith}
 use Prim.Native.Nat.{ℕ, _+_, _*_, _≤_}
-use lib.ListN.{length, getD, set, length-set}
+use lib.ListN.{length, getD, set}
 use lib.Dec.{eqb}
 use Rattle.laws.specs.Cases.{split}
-use Rattle.laws.specs.Runs.{free, mark, marked, unlisted, unlisted-free, unlisted-taken}
+use Rattle.laws.specs.Runs.{mark, marked, unlisted, unlisted-free, unlisted-taken}
 use Rattle.packets.specs.Tile.{Sheet, indexOf}
 use Rattle.packets.specs.Orders.{Range}
 use Rattle.packets.specs.declared.cursor.Position.{Position}
@@ -18,14 +18,10 @@ use Rattle.walks.specs.Going.{Readiness, Rest}
 use Rattle.walks.specs.Running.{Total, totalOf, total-none}
 use Rattle.walks.specs.declared.walk.Walk.{Walk}
 
-abbrev pickTotal : Bool → Total → Total → Total
-pickTotal true a b = a
-pickTotal false a b = b
-
 -- a packet is marked and written as record n, unless it is marked
 unfoldable pub listedOne : Walk → Position → List ℕ → List ℕ → ℕ → Total
 listedOne w p m o n =
-    pickTotal (eqb (getD m (markBy w p) 0) 0)
+    cond (eqb (getD m (markBy w p) 0) 0)
     (record { count = n + 1; marks = set m (markBy w p) 1; output = putPacket o (16 * n) p })
     (record { count = n; marks = m; output = o })
 

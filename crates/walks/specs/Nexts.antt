@@ -1,13 +1,12 @@
 -- The next row or column by distances: what two loops over the components and resolutions in play have found so far. Assumes nothing.
 use Prim.Native.Nat.{ℕ, _+_, _-_, _%_, _≤_, _<_, min, max}
 use mathlib.Core.Path.{_≡_, sym}
-use mathlib.Core.Bool.{Bool, true, false}
+use mathlib.Core.Bool.{Bool, true, false, cond}
 use mathlib.Core.List.{List}
 use native.Mathlib.Omega.{arith}
 use borrow.Author.Tests.{lt-ltb}
 use Rattle.laws.specs.Least.{leastBefore, leastSeen, seen-more, seen-all}
 use Rattle.laws.specs.Stride.{stride}
-use Rattle.geometry.specs.Precinct.{pick}
 use Rattle.packets.specs.Tile.{Sheet, precincts}
 use Rattle.packets.specs.Grid.{stepX, stepY}
 use Rattle.packets.specs.InPlay.{nextInPlay, nextBefore, playX, playY}
@@ -16,7 +15,7 @@ use Rattle.walks.specs.Cells.{some, none, hit-y, pos-x, pos-y}
 
 -- the next multiple of the step of resolution r of component c, if it is in play
 abbrev pub onward : (ℕ → ℕ → Bool) → (ℕ → ℕ → ℕ) → ℕ → ℕ → ℕ → ℕ → ℕ
-onward play f end z c r = pick (play c r) (stride (f c r) z) end
+onward play f end z c r = cond (play c r) (stride (f c r) z) end
 
 -- what the two loops end with
 pub next-all : (play : ℕ → ℕ → Bool) (f : ℕ → ℕ → ℕ) (end z r0 r1 c0 c1 c : ℕ) → z < end → c0 ≤ c → c ≤ max c0 c1 → c1 ≤ c

@@ -1,13 +1,12 @@
 -- The plan of a progression, made once: its order and its walk; and that a search by it finds what is behind a place. Assumes nothing.
 use mathlib.Core.Path.{_≡_, refl, sym, ap, _∙_, subst}
-use mathlib.Core.Bool.{true, false, true≢false}
+use mathlib.Core.Bool.{true, false, cond, true≢false}
 use mathlib.Core.List.{List, [], _∷_, List·Memᴰ as In, List·Memᴰ·head as here}
 use native.Mathlib.Omega.{arith}
 use Prim.Native.Nat.{ℕ, _≤_, _<_}
 use lib.Dec.{eqb, ltb}
 use Rattle.laws.specs.Cases.{split, and-true}
 use Rattle.laws.specs.Means.{eqb-means, leb-means}
-use Rattle.geometry.specs.Precinct.{pick}
 use Rattle.packets.specs.Tile.{Sheet, indexOf, resOf, maxRes, strideC, strideR, strideL}
 use Rattle.packets.specs.Orders.{Order, lrcp, rlcp, rpcl, pcrl, cprl, other, Range, rangeOf, orderOf, componentsGood}
 use Rattle.packets.specs.Positions.{hasPositions, positionsIn}
@@ -62,7 +61,7 @@ goesOver st q = endedAt (st .«max_res») (rangeOf st q)
 
 -- the order's number; 5 also where there are no precincts or the components are not good
 unfoldable pub orderIn : State → Progression → ℕ
-orderIn st q = pick (eqb (st .«max_prec») 0) 5 (pick (componentsGood st (rangeOf st q)) (orderNumber (orderOf (q .prg))) 5)
+orderIn st q = cond (eqb (st .«max_prec») 0) 5 (cond (componentsGood st (rangeOf st q)) (orderNumber (orderOf (q .prg))) 5)
 
 none-in : (ps : List Position) → ((p : Position) → In p ps → ⊥) → ps ≡ []
 none-in [] f = refl

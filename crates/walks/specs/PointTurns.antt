@@ -1,9 +1,9 @@
 -- Behind a row or a column a walk goes on at the next at which something in play is met: the same law for every order by points. Assumes nothing.
-use mathlib.Core.Path.{_≡_, refl, sym, ap, _∙_}
+use mathlib.Core.Path.{_≡_, _∙_}
 use mathlib.Core.List.{List, _∷_, _++_}
-use Prim.Native.Nat.{ℕ, _≤_, _<_, min}
+use Prim.Native.Nat.{ℕ, _≤_, _<_}
 use native.Mathlib.Omega.{arith}
-use Rattle.laws.specs.Nest.{Loop, resumed, later, Fresh}
+use Rattle.laws.specs.Nest.{resumed, later, Fresh}
 use Rattle.laws.specs.NestOnce.{Within}
 use Rattle.packets.specs.Tile.{Sheet}
 use Rattle.packets.specs.Orders.{Range}

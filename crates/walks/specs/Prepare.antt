@@ -1,12 +1,12 @@
 -- Preparing: what is written for a resolution of a component, and what a table, a component and a tile must be for it.
 use Prim.Native.Nat.{ℕ, _+_, _*_, _/_, _%_, _^_, _≤_, _<_}
 use mathlib.Core.Path.{_≡_}
+use mathlib.Core.Bool.{cond}
 use mathlib.Core.List.{List}
 use lib.ListN.{length, getD, set}
 use lib.Dec.{ltb, eqb}
 use Rattle.laws.specs.Below.{sumBelow}
 use Rattle.words.specs.Words.{wordAt}
-use Rattle.geometry.specs.Precinct.{pick}
 use Rattle.geometry.specs.Line.{boundOf}
 use Rattle.packets.specs.Tile.{Sheet, dxOf, dyOf, resOf, width, height, precincts}
 use Rattle.packets.specs.Grid.{stepX, stepY}
@@ -23,7 +23,7 @@ pub record AxisIn (at d level pd : ℕ) : Type 0 where
 unfoldable pub putAxis : List ℕ → ℕ → ℕ → ℕ → ℕ → ℕ → List ℕ
 putAxis prep at t d level pd =
     let low = boundOf t d level in
-    set (set (set prep at (d * 2 ^ (pd + level) % 4294967296)) (at + 2) (pick (eqb (low % 2 ^ pd) 0) 4294967295 t)) (at + 4) (low / 2 ^ pd)
+    set (set (set prep at (d * 2 ^ (pd + level) % 4294967296)) (at + 2) (cond (eqb (low % 2 ^ pd) 0) 4294967295 t)) (at + 4) (low / 2 ^ pd)
 
 -- a resolution that is prepared from place at on: its entry stands at place from of a table
 pub record ResolutionIn (at : ℕ) (table : List ℕ) (from level dx dy : ℕ) : Type 0 where
@@ -41,7 +41,7 @@ unfoldable pub putEntry : List ℕ → ℕ → List ℕ → ℕ → ℕ → ℕ 
 putEntry prep at table from level dx dy tx0 ty0 =
     let wide = wordAt table (from + 8) in
     let count = wide * wordAt table (from + 12) in
-    putAxis (putAxis (set prep at (pick (ltb 0 count) wide 0)) (at + 1) tx0 dx level (wordAt table from)) (at + 2) ty0 dy level (wordAt table (from + 4))
+    putAxis (putAxis (set prep at (cond (ltb 0 count) wide 0)) (at + 1) tx0 dx level (wordAt table from)) (at + 2) ty0 dy level (wordAt table (from + 4))
 
 -- the steps of a resolution that has precincts fit 32 bits
 abbrev pub Fitting : Sheet → ℕ → ℕ → Type 0

@@ -1,11 +1,10 @@
 -- The numbers that are prepared once for each component and resolution, what they stand for, and what they answer at a point.
 use Prim.Native.Nat.{ℕ, _+_, _*_, _%_, _≤_, _<_}
 use mathlib.Core.Path.{_≡_}
-use mathlib.Core.Bool.{Bool, true, false, _||_}
+use mathlib.Core.Bool.{Bool, cond, _||_}
 use mathlib.Core.List.{List}
 use lib.ListN.{getD}
 use lib.Dec.{ltb, eqb}
-use Rattle.geometry.specs.Precinct.{pick}
 use Rattle.geometry.specs.Line.{Line, whole, first}
 use Rattle.packets.specs.Tile.{Sheet, lineX, lineY, width, precincts}
 use Rattle.packets.specs.Orders.{Range}
@@ -31,7 +30,7 @@ countIn counts r c = getD counts (16 * r + c) 0
 
 -- the tile's start where it lies inside a precinct, else 2^32 - 1, which no point is
 abbrev pub insideStart : Line → ℕ
-insideStart l = pick (whole l) 4294967295 (l .t0)
+insideStart l = cond (whole l) 4294967295 (l .t0)
 
 -- a coordinate meets a precinct's start, by these numbers
 abbrev pub hitBy : ℕ → ℕ → ℕ → Bool
@@ -48,7 +47,7 @@ pub record Lines (s : Sheet) (prep : List ℕ) (r c : ℕ) : Type 0 where
 
 -- .. and of any resolution
 pub record Entry (s : Sheet) (prep : List ℕ) (r c : ℕ) : Type 0 where
-  pub wide : widthIn prep r c ≡ pick (ltb 0 (precincts s c r)) (width s c r) 0
+  pub wide : widthIn prep r c ≡ cond (ltb 0 (precincts s c r)) (width s c r) 0
   pub lines : 0 < precincts s c r → Lines s prep r c
 
 -- resolutions r0 to r1 of components c0 to c1 are prepared, for a good sheet whose precinct counts are small
@@ -87,10 +86,6 @@ atRow y = record { layno = 0; resno = 0; compno = 0; precno = 0; x = 0; y = y }
 abbrev pub pointOf : ℕ → ℕ → ℕ → ℕ → Position
 pointOf r c x y = record { layno = 0; resno = r; compno = c; precno = 0; x = x; y = y }
 
-abbrev pub pickCell : Bool → Cell → Cell → Cell
-pickCell true a b = a
-pickCell false a b = b
-
 -- the precinct that is met at a point, if one is
 unfoldable pub cellOf : Sheet → ℕ → ℕ → ℕ → ℕ → Cell
-cellOf s r c x y = pickCell (met s (pointOf r c x y)) (At (numberAt s (pointOf r c x y))) Nothing
+cellOf s r c x y = cond (met s (pointOf r c x y)) (At (numberAt s (pointOf r c x y))) Nothing

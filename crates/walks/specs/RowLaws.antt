@@ -1,7 +1,7 @@
 -- What is noted of a row: it tells what is in play there, and where its precincts start; a turn that notes one more loses none. Assumes nothing.
 use Prim.Native.Nat.{ℕ, _+_, _-_, _*_, _/_, _≤_, _<_}
 use mathlib.Core.Path.{_≡_, refl, sym, _∙_}
-use mathlib.Core.Bool.{Bool, true, false, _&&_}
+use mathlib.Core.Bool.{Bool, true, false, cond, _&&_}
 use mathlib.Core.List.{List}
 use mathlib.Core.Logic.{⊎-elim}
 use native.Mathlib.Nat.{mul-comm}
@@ -11,8 +11,7 @@ use lib.Dec.{ltb}
 use lib.ListN.{length, getD, set}
 use lib.Seq.{getD-set-same, getD-set-other}
 use borrow.Author.Tests.{ltb-true}
-use Rattle.laws.specs.Cases.{le-or-lt, and-true}
-use Rattle.geometry.specs.Precinct.{pick}
+use Rattle.laws.specs.Cases.{le-or-lt, and-true, cond-some}
 use Rattle.geometry.specs.Line.{hitAt, columnOf}
 use Rattle.geometry.specs.Hits.{factors, proper, hit-quotient, col-below}
 use Rattle.packets.specs.Tile.{Sheet, lineX, lineY, width, height, precincts}
@@ -32,17 +31,13 @@ pub row-out : (s : Sheet) (r c y : ℕ) → rowOf s r c y ≡ 0 → playX s (atR
 unfolding rowOf
 row-out s r c y = by (playX s (atRow y) c r) _
   where
-    by : (t : Bool) (n : ℕ) → pick t (n + 1) 0 ≡ 0 → t ≡ false
+    by : (t : Bool) (n : ℕ) → cond t (n + 1) 0 ≡ 0 → t ≡ false
     by true n e = absurd (omega arith)
     by false n e = refl
 
 pub row-in : (s : Sheet) (r c y : ℕ) → 0 < rowOf s r c y → playX s (atRow y) c r ≡ true
 unfolding rowOf
-row-in s r c y = by (playX s (atRow y) c r) _
-  where
-    by : (t : Bool) (n : ℕ) → 0 < pick t (n + 1) 0 → t ≡ true
-    by true n e = refl
-    by false n e = absurd (omega arith)
+row-in s r c y h = cond-some (playX s (atRow y) c r) _ h .0
 
 module _ (s : Sheet) (prep : List ℕ) (r c y : ℕ) (e : Entry s prep r c) (k : y < 4294967295) where
   -- then the prepared numbers show it

@@ -1,6 +1,6 @@
 -- One turn of a walk at the innermost loops, the same for every order by points: a precinct is met or not, a layer is free or not. Assumes nothing.
 use mathlib.Core.Path.{_≡_, refl, ap, _∙_}
-use mathlib.Core.Bool.{Bool, true, false}
+use mathlib.Core.Bool.{Bool, true, false, cond}
 use mathlib.Core.List.{List, [], _∷_, _++_}
 use Prim.Native.Nat.{ℕ, _+_, _≤_, _<_}
 use native.Mathlib.Omega.{arith}
@@ -17,7 +17,7 @@ use Rattle.packets.specs.Met.{MetAt, met-small, precincts-in}
 use Rattle.packets.specs.Inside.{Inside}
 use Rattle.packets.specs.declared.state.State.{State}
 use Rattle.packets.specs.declared.cursor.Position.{Position}
-use Rattle.walks.specs.Prepared.{InPlay, AtPoint, pointOf, pickCell, cellOf}
+use Rattle.walks.specs.Prepared.{InPlay, AtPoint, pointOf, cellOf}
 use Rattle.walks.specs.Walk.{indexBy, Ready}
 use Rattle.walks.specs.Innermost.{last-out, last-found, last-passed}
 use Rattle.walks.specs.Marks.{fits-mark, has-mark, reads-mark}
@@ -64,7 +64,7 @@ module _ (s : Sheet) (r c x y : ℕ) where
   unfolding cellOf
   cell-met k e = by (met s (pointOf r c x y)) e
     where
-      by : (t : Bool) → pickCell t (At (numberAt s (pointOf r c x y))) Nothing ≡ At k → (t ≡ true) × (k ≡ numberAt s (pointOf r c x y))
+      by : (t : Bool) → cond t (At (numberAt s (pointOf r c x y))) Nothing ≡ At k → (t ≡ true) × (k ≡ numberAt s (pointOf r c x y))
       by true e = (refl, cc)
       by false e = absurd (let z : _≡_ {A = ℕ} 0 1 = cc in let n : ⊥ = omega arith in n)
 
@@ -72,7 +72,7 @@ module _ (s : Sheet) (r c x y : ℕ) where
   unfolding cellOf
   cell-missed e = by (met s (pointOf r c x y)) e
     where
-      by : (t : Bool) → pickCell t (At (numberAt s (pointOf r c x y))) Nothing ≡ Nothing → t ≡ false
+      by : (t : Bool) → cond t (At (numberAt s (pointOf r c x y))) Nothing ≡ Nothing → t ≡ false
       by true e = absurd (let z : _≡_ {A = ℕ} 0 1 = cc in let n : ⊥ = omega arith in n)
       by false e = refl
 

@@ -1,10 +1,10 @@
 // The numbers that the walks by points need, prepared once for each component and resolution (specs Prepared).
 use geometry::ceiling;
 ghost use mathlib.Core.Path.{_≡_};
+ghost use mathlib.Core.Bool.{cond};
 ghost use Prim.Native.Nat.{_*_, _%_, _^_, _≤_};
 ghost use lib.Dec.{ltb, eqb};
 ghost use lib.ListN.{length};
-ghost use Rattle.geometry.specs.Precinct.{pick};
 ghost use Rattle.laws.specs.Ceiling.{ceilDiv};
 ghost use Rattle.walks.specs.Prepare.{AxisIn, putAxis, ResolutionIn, putEntry, SomeComponent, Done, SomeComponents, AllDone};
 
@@ -19,7 +19,7 @@ pub(crate) fn step(d: u32, by: u32) -> u32
 // The tile's start where it lies inside a precinct, else what no point is.
 pub(crate) fn start(t: u32, low: u32, pd: u32) -> u32
     requires { ⌜ pd ≤ 15 ⌝ }
-    ensures { λ r. ⌜ r ≡ pick (eqb (low % 2 ^ pd) 0) 4294967295 t ⌝ }
+    ensures { λ r. ⌜ r ≡ cond (eqb (low % 2 ^ pd) 0) 4294967295 t ⌝ }
 {
     if low % (1u32 << pd) == 0 {
         0xffff_ffff
@@ -30,7 +30,7 @@ pub(crate) fn start(t: u32, low: u32, pd: u32) -> u32
 
 // The width that is shown: 0 where there is no precinct.
 pub(crate) fn shown(wide: u32, count: u32) -> u32
-    ensures { λ r. ⌜ r ≡ pick (ltb 0 count) wide 0 ⌝ }
+    ensures { λ r. ⌜ r ≡ cond (ltb 0 count) wide 0 ⌝ }
 {
     if count == 0 { 0 } else { wide }
 }

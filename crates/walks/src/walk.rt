@@ -1,7 +1,7 @@
 // What a walk goes over, where a mark stands, and what a walk finds.
 use packets::cursor::Position;
 ghost use mathlib.Core.Path.{_≡_};
-ghost use Prim.Native.Nat.{_+_, _*_, _≤_, _<_};
+ghost use Prim.Native.Nat.{_+_, _*_, _<_};
 ghost use lib.ListN.{length, getD};
 ghost use lib.Dec.{eqb};
 ghost use Rattle.walks.specs.Walk.{indexBy};

@@ -6,7 +6,6 @@ use Rattle.laws.specs.Ceiling.{ceilDiv, floor-ceil}
 use borrow.Author.Tests.{lt-ltb, le-ltb, ltb-true, ltb-false}
 use lib.Dec.{ltb}
 use lib.Pow.{pow-pos}
-use mathlib.Core.Path.{_≡_}
 use Prim.Native.Nat.{_/_, _^_, _≤_, _<_}
 use native.Mathlib.Omega.{arith}
 use borrow.Author.Needs.{needs}

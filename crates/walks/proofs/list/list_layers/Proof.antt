@@ -1,7 +1,6 @@
 -- `list_layers`: a turn lists the next layer (`one-listed`). Assumes nothing.
 use borrow.Author.Needs.{needs}
 use Prim.Native.Nat.{_-_}
-use native.Mathlib.Omega.{arith}
 use Rattle.walks.specs.Going.{Rest}
 use Rattle.walks.specs.AtPoint.{leftL, inL, outL}
 use Rattle.walks.specs.Listing.{Listing, first-listed, goes-on, one-listed, listed-few}

@@ -14,7 +14,6 @@ use Rattle.walks.specs.Turns.{Stands, in-play}
 use Rattle.walks.specs.Going.{Rest}
 use Rattle.walks.specs.AtPoint.{leftK}
 use Rattle.walks.specs.Listing.{Listing, first-listed, goes-on, then-listed, few-still, all-listed}
-use Rattle.walks.specs.Layers.{Celled}
 use Rattle.walks.specs.Cprl.{wholly, enter, leftC, leftY, leftX, leftR, afterR, inC, outC, onC, inY, outY, onY, inX, outX, onX, inR, outR, onR, column-is, row-is}
 use Rattle.walks.specs.declared.walk.Walk.{Walk}
 use Rattle.walks.proofs.list_cprl.list_cprl.Statement.{statement}

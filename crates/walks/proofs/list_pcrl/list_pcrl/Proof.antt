@@ -3,7 +3,7 @@
 use borrow.Author.Needs.{needs}
 use mathlib.Core.Path.{_≡_, refl, sym, _∙_}
 use mathlib.Core.List.{List}
-use Prim.Native.Nat.{ℕ, _+_, _-_, _≤_}
+use Prim.Native.Nat.{ℕ, _-_, _≤_}
 use native.Mathlib.Omega.{arith}
 use lib.ListN.{length}
 use Rattle.packets.specs.Tile.{Sheet}
@@ -14,7 +14,6 @@ use Rattle.walks.specs.Turns.{Stands, in-play}
 use Rattle.walks.specs.Going.{Rest}
 use Rattle.walks.specs.AtPoint.{leftK}
 use Rattle.walks.specs.Listing.{Listing, first-listed, goes-on, then-listed, few-still, all-listed}
-use Rattle.walks.specs.Layers.{Celled}
 use Rattle.walks.specs.Pcrl.{wholly, enter, leftY, leftX, leftC, leftR, afterR, inY, outY, onY, inX, outX, onX, inC, outC, onC, inR, outR, onR, column-is, row-is}
 use Rattle.walks.specs.declared.walk.Walk.{Walk}
 use Rattle.walks.proofs.list_pcrl.list_pcrl.Statement.{statement}

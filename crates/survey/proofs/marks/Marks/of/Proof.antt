@@ -3,7 +3,7 @@ use Rattle.survey.proofs.Products.{needed-each, product-at-most, capped
 use Rattle.survey.specs.Passing.{marksOf}
 use borrow.Author.Tests.{le-leb, lt-leb}
 use native.Mathlib.Omega.{arith}
-use Prim.Native.Nat.{_*_, _≤_, _<_, min}
+use Prim.Native.Nat.{_*_, _≤_, min}
 use borrow.Author.Needs.{needs}
 use Rattle.survey.proofs.marks.Marks.of.Statement.{statement}
 use Rattle.survey.proofs.marks.Marks.of.Tie as tie
