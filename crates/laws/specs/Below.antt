@@ -31,9 +31,12 @@ module _ (f : ℕ → Bool) where
   unfolding allBelow
   all-none = refl
 
-  pub all-more : (i : ℕ) → allBelow f i ≡ true → f i ≡ true → allBelow f (i + 1) ≡ true
+  pub all-next : (i : ℕ) → allBelow f (i + 1) ≡ (allBelow f i && f i)
   unfolding allBelow
-  all-more i p q = rw (add-one i, p, q)
+  all-next i = rw (add-one i)
+
+  pub all-more : (i : ℕ) → allBelow f i ≡ true → f i ≡ true → allBelow f (i + 1) ≡ true
+  all-more i p q = rw (all-next i, p, q)
 
   pub all-fails : (n i : ℕ) → i < n → f i ≡ false → allBelow f n ≡ false
   unfolding allBelow

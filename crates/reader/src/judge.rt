@@ -3,7 +3,8 @@ use packets::state::Progression;
 use packets::state::State;
 use words::word_at;
 ghost use mathlib.Core.Path.{_≡_};
-ghost use Prim.Native.Nat.{_-_, _≤_};
+ghost use Prim.Native.Nat.{_-_, _/_, _%_, _≤_, _<_};
+ghost use lib.ListN.{length};
 ghost use Rattle.packets.specs.Sheet.{wd, unnamed, judged, tileVerdict, componentVerdict, resolutionVerdict, progressionVerdict, volumeVerdict, wholeTileVerdict, recordVerdict, dueBehind, complete, readFrom, readVerdict, due};
 ghost use Rattle.reader.specs.Reader.{dueOf};
 
@@ -28,20 +29,19 @@ pub(crate) fn word(s: &[u8], i: usize, k: usize) -> u32
     word_at(s, 32 * i + 4 * k)
 }
 
-// The words of record i from word k on are 0.
+// The words of record i from word k on are 0. None of them ends the loop, so that the compiler makes one test of all.
 fn no_more(s: &[u8], i: usize, k: usize) -> bool
     requires { ⌜ (i ≤ 1000) × (k ≤ 8) ⌝ }
     ensures { λ r. ⌜ r ≡ unnamed (now (s .entry)) i k ⌝ }
 {
     let left = 8 - k;
+    let mut clear = true;
     let mut j: usize = 0;
     while j < left {
-        if word(s, i, k + j) != 0 {
-            return false;
-        }
+        clear = clear & (word(s, i, k + j) == 0);
         j += 1;
     }
-    true
+    clear
 }
 
 fn tile_verdict(s: &[u8], i: usize) -> u32
@@ -163,10 +163,10 @@ fn complete(d: Due) -> bool
     (d.resolutions == 0) & ((d.components == 0) & (d.progressions == 0))
 }
 
-// Records 1 to n - 1, behind the tile's.
-fn read_records(s: &[u8], n: usize, components: u32, progressions: u32) -> u32
-    requires { ⌜ n ≤ 577 ⌝ }
-    ensures { λ r. ⌜ r ≡ readFrom (now (s .entry)) progressions (n - 1) 1 (due 0 components progressions) ⌝ }
+// The records behind the tile's. The loop asks for a record's bytes, so that no word of it is asked for again.
+fn read_records(s: &[u8], components: u32, progressions: u32) -> u32
+    requires { ⌜ (0 < length (now s)) × (length (now s) % 32 ≡ 0) × (length (now s) ≤ 18464) ⌝ }
+    ensures { λ r. ⌜ r ≡ readFrom (now (s .entry)) progressions (length (now (s .entry)) / 32 - 1) 1 (due 0 components progressions) ⌝ }
 {
     let mut d = Due {
         resolutions: 0,
@@ -174,7 +174,7 @@ fn read_records(s: &[u8], n: usize, components: u32, progressions: u32) -> u32
         progressions,
     };
     let mut i: usize = 1;
-    while i < n {
+    while 32 * i + 32 <= s.len() {
         let v = record_verdict(s, progressions, i, d);
         if v != 0 {
             return v;
@@ -203,5 +203,5 @@ pub(crate) fn read_verdict(s: &[u8]) -> u32
     if v != 0 {
         return v;
     }
-    read_records(s, n / 32, word(s, 0, 6), word(s, 0, 7))
+    read_records(s, word(s, 0, 6), word(s, 0, 7))
 }

@@ -1,39 +1,31 @@
--- `no_more`: the words up to the one at hand are 0; the first that is not decides. Assumes nothing.
+-- `no_more`: what is known of the words up to the one at hand. Assumes nothing.
 use Prim.Native.Nat.{_+_, _-_, _≤_}
-use mathlib.Core.Bool.{true}
 use mathlib.Core.Path.{_≡_, sym}
 use native.Mathlib.Omega.{arith}
 use lib.Dec.{eqb}
-use borrow.Author.Tests.{eq-eqb, ne-eqb}
 use borrow.Author.Needs.{needs}
-use Rattle.laws.specs.Below.{allBelow, all-none, all-more, all-fails}
+use Rattle.laws.specs.Below.{allBelow, all-none, all-next}
 use Rattle.packets.specs.Sheet.{wd}
 use Rattle.reader.proofs.judge.no_more.Statement.{statement}
 use Rattle.reader.proofs.judge.no_more.Tie as tie
 
 abbrev Inv-loop : tie.InvT-loop
-Inv-loop s i k left j₀ j = (j ≤ left) × (allBelow (λ m. eqb (wd s i (k + m)) 0) j ≡ true)
+Inv-loop s i k left clear₀ j₀ clear j = (j ≤ left) × (clear ≡ allBelow (λ m. eqb (wd s i (k + m)) 0) j)
 
 abbrev μ-loop : tie.MeasureT-loop
-μ-loop s i k left j₀ j = left - j
+μ-loop s i k left clear₀ j₀ clear j = left - j
 
 sub-left : tie.Need-sub-left Inv-loop μ-loop
 sub-left c = omega arith
 
 loop-holds : tie.Need-loop-holds Inv-loop μ-loop
-loop-holds c = (omega arith, all-none _)
+loop-holds c = (omega arith, sym (all-none _))
 
 add-word : tie.Need-add-word Inv-loop μ-loop
 add-word c = omega arith
 
 word-requires : tie.Need-word-requires Inv-loop μ-loop
 word-requires c κs = search needs
-
-returns : tie.Need-returns Inv-loop μ-loop
-returns c =
-    let l = c .before .before .before in
-    let a = l .before .before .args in
-    sym (all-fails _ (8 - a .k) (l .loop .j) (c .before .before .loop-test .taken) (rw (← (c .before .word .ensures)) (ne-eqb _ _ (c .if1 .taken))))
 
 add-j : tie.Need-add-j Inv-loop μ-loop
 add-j c = omega arith
@@ -43,14 +35,14 @@ loop-less c = omega arith
 
 loop-again : tie.Need-loop-again Inv-loop μ-loop
 loop-again c =
-    let l = c .before .before .before in
-    (omega arith, all-more _ (l .loop .j) (l .loop .inv .1) (rw (← (c .before .word .ensures)) (eq-eqb _ _ (c .if1 .left))))
+    let l = c .before .before .loop in
+    (omega arith, rw (l .inv .1, c .word .ensures) (sym (all-next _ (l .j))))
 
-returns-2 : tie.Need-returns-2 Inv-loop μ-loop
-returns-2 c =
+returns : tie.Need-returns Inv-loop μ-loop
+returns c =
     let l = c .before in
     let e : 8 - l .before .before .args .k ≡ l .loop .j = omega arith in
-    rw e (sym (l .loop .inv .1))
+    rw e (l .loop .inv .1)
 
 pub no-more-spec : {M : Type 1} → statement M
 no-more-spec =
@@ -62,8 +54,7 @@ no-more-spec =
     loop-holds
     add-word
     word-requires
-    returns
     add-j
     loop-less
     loop-again
-    returns-2)
+    returns)

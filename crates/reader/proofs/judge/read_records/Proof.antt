@@ -1,7 +1,8 @@
 -- `read_records`: what is left to read from the record at hand on decides, by what is due there. Assumes nothing.
-use Prim.Native.Nat.{_-_}
+use Prim.Native.Nat.{_-_, _/_, _≤_}
 use mathlib.Core.Path.{_≡_, refl, sym, _∙_}
 use native.Mathlib.Omega.{arith}
+use lib.ListN.{length}
 use denote.Ref.{now}
 use borrow.Author.Tests.{ne-eqb}
 use Rattle.packets.specs.Sheet.{due, readFrom}
@@ -11,14 +12,20 @@ use Rattle.reader.proofs.judge.read_records.Statement.{statement}
 use Rattle.reader.proofs.judge.read_records.Tie as tie
 
 abbrev Inv-loop : tie.InvT-loop
-Inv-loop s n components progressions d₀ i₀ d i =
-    readFrom s progressions (n - 1) 1 (due 0 components progressions) ≡ readFrom s progressions (n - i) i (dueOf d)
+Inv-loop s components progressions d₀ i₀ d i =
+    (i ≤ length s / 32) × (readFrom s progressions (length s / 32 - 1) 1 (due 0 components progressions) ≡ readFrom s progressions (length s / 32 - i) i (dueOf d))
 
 abbrev μ-loop : tie.MeasureT-loop
-μ-loop s n components progressions d₀ i₀ d i = n - i
+μ-loop s components progressions d₀ i₀ d i = length s / 32 - i
 
 loop-holds : tie.Need-loop-holds Inv-loop μ-loop
-loop-holds c = refl
+loop-holds c = (omega arith, refl)
+
+mul-loop : tie.Need-mul-loop Inv-loop μ-loop
+mul-loop c = omega arith
+
+add-loop : tie.Need-add-loop Inv-loop μ-loop
+add-loop c = omega arith
 
 record-verdict-requires : tie.Need-record-verdict-requires Inv-loop μ-loop
 record-verdict-requires c κs = omega arith
@@ -29,7 +36,7 @@ returns c =
     let a = l .before .before .args in
     let v = c .before .record-verdict in
     v .ensures
-    ∙ sym (l .loop .inv ∙ read-stop (now (a .s)) (a .progressions) (a .n) (l .loop .i) (dueOf (l .loop .d)) (c .before .before .loop-test .taken) (rw (← (v .ensures)) (ne-eqb _ _ (c .if1 .taken))))
+    ∙ sym (l .loop .inv .1 ∙ read-stop (now (a .s)) (a .progressions) (length (now (a .s)) / 32) (l .loop .i) (dueOf (l .loop .d)) (omega arith) (rw (← (v .ensures)) (ne-eqb _ _ (c .if1 .taken))))
 
 due-behind-requires : tie.Need-due-behind-requires Inv-loop μ-loop
 due-behind-requires c κs = omega arith
@@ -44,9 +51,12 @@ loop-again : tie.Need-loop-again Inv-loop μ-loop
 loop-again c =
     let l = c .before .before .before .before in
     let a = l .before .before .args in
-    let v = c .before .before .record-verdict in
-    l .loop .inv
-    ∙ rw (c .due-behind .ensures) (read-more (now (a .s)) (a .progressions) (a .n) (l .loop .i) (dueOf (l .loop .d)) (c .before .before .before .loop-test .taken) (sym (v .ensures) ∙ c .before .if1 .left))
+    let v = c .before .before .record-verdict in (
+      omega arith,
+      l .loop .inv .1
+          ∙ rw (c .due-behind .ensures)
+          (read-more (now (a .s)) (a .progressions) (length (now (a .s)) / 32) (l .loop .i) (dueOf (l .loop .d)) (omega arith) (sym (v .ensures) ∙ c .before .if1 .left)),
+    )
 
 complete-requires : tie.Need-complete-requires Inv-loop μ-loop
 complete-requires c κs = tt
@@ -55,13 +65,13 @@ returns-2 : tie.Need-returns-2 Inv-loop μ-loop
 returns-2 c =
     let l = c .before .before .before in
     let a = l .before .before .args in
-    sym (l .loop .inv ∙ read-whole (now (a .s)) (a .progressions) (a .n) (l .loop .i) (dueOf (l .loop .d)) (c .before .before .loop-test .left) (sym (c .before .complete .ensures) ∙ c .if2 .taken))
+    sym (l .loop .inv .1 ∙ read-whole (now (a .s)) (a .progressions) (length (now (a .s)) / 32) (l .loop .i) (dueOf (l .loop .d)) (omega arith) (sym (c .before .complete .ensures) ∙ c .if2 .taken))
 
 returns-3 : tie.Need-returns-3 Inv-loop μ-loop
 returns-3 c =
     let l = c .before .before .before in
     let a = l .before .before .args in
-    sym (l .loop .inv ∙ read-missing (now (a .s)) (a .progressions) (a .n) (l .loop .i) (dueOf (l .loop .d)) (c .before .before .loop-test .left) (sym (c .before .complete .ensures) ∙ c .if2 .left))
+    sym (l .loop .inv .1 ∙ read-missing (now (a .s)) (a .progressions) (length (now (a .s)) / 32) (l .loop .i) (dueOf (l .loop .d)) (omega arith) (sym (c .before .complete .ensures) ∙ c .if2 .left))
 
 pub read-records-spec : {M : Type 1} → statement M
 read-records-spec =
@@ -70,6 +80,8 @@ read-records-spec =
     Inv-loop
     μ-loop
     loop-holds
+    mul-loop
+    add-loop
     record-verdict-requires
     returns
     due-behind-requires
