@@ -18,6 +18,7 @@ pub mod Mapped
 pub mod Nest
 pub mod NestOnce
 pub mod NestFixed
+pub mod NestMoved
 pub mod NestResume
 pub mod NestStride
 pub mod NestClip

@@ -18,6 +18,11 @@ pub data Answer (P : Type 0) : Type 0 where
   Packet : P → Answer P
   Ended : Answer P
 
+-- the first answer, or else the second
+abbrev pub orElse : {P : Type 0} → Answer P → Answer P → Answer P
+orElse (Packet p) b = Packet p
+orElse Ended b = b
+
 -- what a step answers and leaves
 pub record Step (P : Type 0) : Type 0 where
   pub answer : Answer P
@@ -105,6 +110,15 @@ module _ {P : Type 0} (ix : P → ℕ) where
     pub unlisted-taken : free m p ≡ false → unlisted m (p ∷ ps) ≡ unlisted m ps
     unfolding unlisted
     unlisted-taken e = rw (unlisted, e)
+
+  -- one list, or else another
+  pub seek-append : (m : List ℕ) (a b : List P) → seek m (a ++ b) ≡ orElse (seek m a) (seek m b)
+  unfolding seek
+  seek-append m [] b = refl
+  seek-append m (p ∷ a) b =
+      split (free m p)
+      (λ e. rw (seek-free m p (a ++ b) e, seek-free m p a e))
+      (λ e. rw (seek-taken m p (a ++ b) e, seek-taken m p a e) (seek-append m a b))
 
   -- what is found is one of the list
   pub seek-in : (m : List ℕ) (ps : List P) (p : P) → seek m ps ≡ Packet p → In p ps

@@ -2,13 +2,14 @@
 -- as what was to be searched at entry. And what is known where the loops have been left. Assumes nothing.
 use mathlib.Core.Path.{_≡_, sym, ap, _∙_}
 use mathlib.Core.Bool.{Bool, true, false, false≢true}
-use mathlib.Core.List.{List, []}
+use mathlib.Core.List.{List, [], _++_}
 use Prim.Native.Nat.{ℕ}
-use Rattle.laws.specs.Runs.{Packet, Ended, seek}
+use Rattle.laws.specs.Runs.{Packet, Ended, orElse, seek, seek-append}
 use Rattle.packets.specs.Tile.{Sheet, indexOf}
 use Rattle.packets.specs.Orders.{Range}
 use Rattle.packets.specs.declared.cursor.Position.{Position}
-use Rattle.walks.specs.declared.walk.Found.the-variants as found
+use Rattle.walks.specs.Walk.{answerOf}
+use Rattle.walks.specs.declared.walk.Found.{Found}
 
 -- the walk is ready for a sheet and a range
 abbrev pub Readiness : Type 1
@@ -34,6 +35,16 @@ module _ (Ready : Readiness) (marks : List ℕ) where
   -- the same walk, with what is left answering the same
   pub passed : {hit was : Bool} (entry a b : Rest) → hit ≡ was → Going was entry a → Alike a b → Going hit entry b
   passed entry a b f w e = record { not-yet = f ∙ w .not-yet; same = λ s g h. w .same s g h ∙ e s g h }
+
+  -- a part of what is left was searched: what was found there is found, or else what is in the rest
+  pub part-searched : (entry a part b : Rest) (f : Found) → Alike entry a
+      → ((s : Sheet) (g : Range) → Ready s g → (a s g ≡ part s g ++ b s g) × (answerOf f ≡ seek (indexOf (s .st)) marks (part s g)))
+      → (s : Sheet) (g : Range) → Ready s g → seek (indexOf (s .st)) marks (entry s g) ≡ orElse (answerOf f) (seek (indexOf (s .st)) marks (b s g))
+  part-searched entry a part b f w e s g h =
+      w s g h
+      ∙ ap (seek (indexOf (s .st)) marks) (e s g h .0)
+      ∙ seek-append (indexOf (s .st)) marks (part s g) (b s g)
+      ∙ ap (λ t. orElse t (seek (indexOf (s .st)) marks (b s g))) (sym (e s g h .1))
 
   -- what is known where the loops have been left
   pub record Left (entry : Rest) (hit : Bool) (p : Position) : Type 0 where

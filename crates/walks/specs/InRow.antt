@@ -34,10 +34,9 @@ pub record RowPoint (s : Sheet) (prep row : List ℕ) (r c x y : ℕ) : Type 0 w
 abbrev pub SomeRowPoint : List ℕ → List ℕ → ℕ → ℕ → ℕ → Type 0
 SomeRowPoint prep row r c x = (s : Sheet) × ((y : ℕ) × RowPoint s prep row r c x y)
 
--- a row that is noted
-pub record RowPlay (s : Sheet) (prep row : List ℕ) (r0 r1 c0 c1 y : ℕ) : Type 0 where
+-- a point of a row that is noted, for all of them
+pub record PointPlay (s : Sheet) (prep row : List ℕ) (r0 r1 c0 c1 x y : ℕ) : Type 0 where
   pub at : AtRow s prep r0 r1 c0 c1 y
+  pub left : s .st .tx0 ≤ x
+  pub right : x < s .st .tx1
   pub noted : Row s row r0 r1 c0 c1 y
-
-abbrev pub SomeRowPlay : List ℕ → List ℕ → ℕ → ℕ → ℕ → ℕ → Type 0
-SomeRowPlay prep row r0 r1 c0 c1 = (s : Sheet) × ((y : ℕ) × RowPlay s prep row r0 r1 c0 c1 y)

@@ -9,11 +9,11 @@ use Rattle.packets.specs.Orders.{Range}
 use Rattle.packets.specs.Good.{Good}
 use Rattle.packets.specs.Inside.{Inside}
 use Rattle.walks.specs.Prepared.{cellOf}
-use Rattle.walks.specs.InRow.{rowOf, RowPoint}
+use Rattle.walks.specs.InRow.{rowOf, RowPoint, PointPlay}
 use Rattle.walks.specs.Turns.{Stands, at-point, met-inside, cell-met, cell-missed}
 use Rattle.walks.specs.declared.cell.Cell.{Cell}
 use Rattle.walks.specs.declared.cell.Cell.the-variants.{At, Nothing}
-use Rattle.walks.specs.Walk.{Ranged, Ready}
+use Rattle.walks.specs.Walk.{Ranged, Ready, ready-long}
 use Rattle.walks.specs.Marks.{markBy, same-mark, fits-mark, has-mark}
 use Rattle.walks.specs.Going.{Rest}
 use Rattle.walks.specs.AtPoint.{packetOf, leftK, leftL, meets, misses}
@@ -74,3 +74,28 @@ module _ (s : Sheet) (g : Range) (prep row : List ℕ) (w : Walk) (marks : List 
 
     pub cell-passed : cell ≡ Nothing → (o : Rest) → leftK o r c x y 0 s g ≡ o s g
     cell-passed f o = misses s g o r c x y 0 (cell-missed s r c x y (sym e ∙ f))
+
+-- .. and so do all components and resolutions in range
+pub record Pointed (s : Sheet) (g : Range) (prep row : List ℕ) (w : Walk) (marks : List ℕ) (x y : ℕ) : Type 0 where
+  pub ready : Ready s g prep w marks
+  pub point : PointPlay s prep row (w .resno0) (w .resno1) (w .compno0) (w .compno1) x y
+
+abbrev pub SomePointed : List ℕ → List ℕ → Walk → List ℕ → ℕ → ℕ → ℕ → Rest → Type 0
+SomePointed prep row w marks x y n rest =
+    (s : Sheet) × ((g : Range) × Pointed s g prep row w marks x y × (n + length (unlisted (indexOf (s .st)) marks (rest s g)) ≤ 65536))
+
+module _ (s : Sheet) (g : Range) (prep row : List ℕ) (w : Walk) (marks : List ℕ) (x y : ℕ) (d : Pointed s g prep row w marks x y) where
+  -- as many other marks do as well
+  pub pointed-long : (other : List ℕ) → length other ≡ length marks → Pointed s g prep row w other x y
+  pointed-long other e = record { ready = ready-long s g prep w marks other e (d .ready); point = d .point }
+
+  -- one of them
+  pub pointed-cell : (r c : ℕ) → w .resno0 ≤ r → r < w .resno1 → w .compno0 ≤ c → c < w .compno1 → Celled s g prep row w marks r c x y
+  pointed-cell r c a b i j =
+      let q = d .ready .ranged in
+      let p = d .point in
+      record {
+        ready = d .ready;
+        stands = record { res-from = a; res-to = b; comp-from = i; comp-to = j; left = rw (q .tx0) (p .left); right = rw (q .tx1) (p .right); top = rw (q .ty0) (p .at .top); bottom = rw (q .ty1) (p .at .bottom) };
+        noted = p .noted r c a b i j;
+      }

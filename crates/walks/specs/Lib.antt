@@ -13,10 +13,10 @@ pub mod Marks
 pub mod Turns
 pub mod RowLaws
 pub mod Going
-pub mod PointTurns
 pub mod AtPoint
-pub mod Rpcl
 pub mod Pcrl
+pub mod Part
+pub mod Rpcl
 pub mod Cprl
 pub mod Counts
 pub mod Lrcp

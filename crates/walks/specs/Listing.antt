@@ -2,7 +2,7 @@
 -- listed at entry. Assumes nothing.
 use mathlib.Core.Path.{_≡_, refl, sym, ap, _∙_}
 use mathlib.Core.Bool.{true, false, cond}
-use mathlib.Core.List.{List, [], _∷_}
+use mathlib.Core.List.{List, [], _∷_, _++_}
 use native.Mathlib.Omega.{arith}
 use Prim.Native.Nat.{ℕ, _+_, _*_, _≤_}
 use lib.ListN.{length, getD, set}
@@ -15,7 +15,7 @@ use Rattle.packets.specs.declared.cursor.Position.{Position}
 use Rattle.walks.specs.Records.{putPacket, putPackets}
 use Rattle.walks.specs.Marks.{markBy}
 use Rattle.walks.specs.Going.{Readiness, Rest}
-use Rattle.walks.specs.Running.{Total, totalOf, total-none}
+use Rattle.walks.specs.Running.{Total, totalOf, total-none, total-append}
 use Rattle.walks.specs.declared.walk.Walk.{Walk}
 
 -- a packet is marked and written as record n, unless it is marked
@@ -83,11 +83,35 @@ module _ (Ready : Readiness) (marks₀ output₀ : List ℕ) (n₀ : ℕ) (entry
               ∙ ap (λ (u : Total). totalOf (indexOf (s .st)) (u .marks) (u .output) (u .count) (b s g)) (sym told);
         }
 
+    -- a part of what is left was listed
+    pub part-listed : (part b : Rest) → ((s : Sheet) (g : Range) → Ready s g → a s g ≡ part s g ++ b s g)
+        → {marks' output' : List ℕ} {n' : ℕ} → length marks' ≡ length marks → length output' ≡ length output
+        → ((s : Sheet) (g : Range) → Ready s g → _≡_ {A = Total} (record { count = n'; marks = marks'; output = output' }) (totalOf (indexOf (s .st)) marks output n (part s g)))
+        → Listing marks' output' n' b
+    part-listed part b e l r told =
+        record {
+          long = l ∙ t .long;
+          room = r ∙ t .room;
+          same = λ s g h.
+              t .same s g h
+              ∙ ap (totalOf (indexOf (s .st)) marks output n) (e s g h)
+              ∙ total-append (indexOf (s .st)) marks output n (part s g) (b s g)
+              ∙ ap (λ (u : Total). totalOf (indexOf (s .st)) (u .marks) (u .output) (u .count) (b s g)) (sym (told s g h));
+        }
+
     -- few packets are listed so far, and will be
     pub few-still : (s : Sheet) (g : Range) → Ready s g → n₀ + length (unlisted (indexOf (s .st)) marks₀ (entry s g)) ≤ 65536
         → n + length (unlisted (indexOf (s .st)) marks (a s g)) ≤ 65536
     unfolding totalOf
     few-still s g h few = let e = ap (λ (u : Total). u .count) (t .same s g h) in omega (arith, e, few)
+
+    -- .. and so are those of a part
+    pub few-part : (part b : List Position) (s : Sheet) (g : Range) → Ready s g → a s g ≡ part ++ b
+        → n₀ + length (unlisted (indexOf (s .st)) marks₀ (entry s g)) ≤ 65536 → n + length (unlisted (indexOf (s .st)) marks part) ≤ 65536
+    unfolding totalOf
+    few-part part b s g h e few =
+        let k = ap (λ (u : Total). u .count) (ap (totalOf (indexOf (s .st)) marks output n) e ∙ total-append (indexOf (s .st)) marks output n part b) in
+        omega (arith, k, few-still s g h few)
 
     pub listed-few : (s : Sheet) (g : Range) → Ready s g → n₀ + length (unlisted (indexOf (s .st)) marks₀ (entry s g)) ≤ 65536 → n ≤ 65536
     listed-few s g h few = omega (arith, few-still s g h few)

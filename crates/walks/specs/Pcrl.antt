@@ -1,7 +1,8 @@
 -- PCRL: what is left to be searched at each of its loops, and the laws of a turn at each. Assumes nothing.
-use mathlib.Core.Path.{_≡_, refl, sym}
+use mathlib.Core.Path.{_≡_, refl, sym, _∙_}
 use mathlib.Core.List.{List, [], _∷_, _++_, append-nil}
 use Prim.Native.Nat.{ℕ, _+_, _≤_, _<_}
+use native.Mathlib.Omega.{arith}
 use Rattle.laws.specs.Axis.{up-grows}
 use Rattle.laws.specs.Nest.{Loop, resumed, later, turn-in, turn-out, turn-next}
 use Rattle.packets.specs.State.{origin}
@@ -10,13 +11,13 @@ use Rattle.packets.specs.Orders.{Range, pcrl}
 use Rattle.packets.specs.Positions.{loopsOf, layers, resolutions, components, rows, columns, thePrecinct, numberAt}
 use Rattle.packets.specs.Strided.{everything}
 use Rattle.packets.specs.Grid.{stepX, stepY}
-use Rattle.packets.specs.InPlay.{nextBefore, playX, playY, nextX, nextY}
+use Rattle.packets.specs.Skips.{skip-rows, skip-columns}
+use Rattle.packets.specs.InPlay.{nextBefore, nextInPlay, playX, playY, nextX, nextY, next-x-grows, next-y-grows, next-x-ends, next-y-ends, in-play-passes}
 use Rattle.packets.specs.declared.cursor.Position.{Position}
 use Rattle.walks.specs.Prepared.{pointOf, atRow, rangeBy}
 use Rattle.walks.specs.Walk.{Ready}
 use Rattle.walks.specs.Going.{Rest}
 use Rattle.walks.specs.AtPoint.{leftK}
-use Rattle.walks.specs.PointTurns.{row-next, column-next, row-by, column-by}
 use Rattle.walks.specs.declared.walk.Walk.{Walk}
 
 -- the loops inside rows, columns, components and resolutions
@@ -122,25 +123,32 @@ module _ (s : Sheet) (g : Range) where
       → afterX y x s g ≡ leftX y z c0 r0 0 s g
   unfolding afterX leftX
   onX y x z c0 r0 top bottom left right e kc kr =
-      column-next s g everything (pointOf 0 0 0 y) tt ((λ p. c0) ∷ (λ p. r0) ∷ numberAt s ∷ (λ p. 0) ∷ []) (afterY y s g)
-      (λ p. kc, (λ p. kr, (λ p. refl, (λ p. refl, tt)))) top bottom x z left right e
+      let p = pointOf 0 0 0 y in
+      skip-columns s g everything p tt (λ q. z) ((λ q. c0) ∷ (λ q. r0) ∷ numberAt s ∷ (λ q. 0) ∷ []) (afterY y s g) (λ q. kc, (λ q. kr, (λ q. refl, (λ q. refl, tt))))
+      top bottom x (nextX s g everything p x) left (in-play-passes s g everything .next-column p tt x) (omega (arith, next-x-ends s g everything p x right))
 
   pub onY : (y z x0 c0 r0 : ℕ) → s .st .ty0 ≤ y → y < s .st .ty1
       → z ≡ nextY s g everything origin y → x0 ≡ s .st .tx0 → c0 ≡ g .compno0 → r0 ≡ g .resno0
       → afterY y s g ≡ leftY z x0 c0 r0 0 s g
   unfolding afterY leftY
   onY y z x0 c0 r0 top bottom e kx kc kr =
-      row-next s g everything origin tt ((λ p. x0) ∷ (λ p. c0) ∷ (λ p. r0) ∷ numberAt s ∷ (λ p. 0) ∷ []) []
-      (λ p. kx, (λ p. kc, (λ p. kr, (λ p. refl, (λ p. refl, tt))))) y z top bottom e
+      skip-rows s g everything origin tt (λ q. z) ((λ q. x0) ∷ (λ q. c0) ∷ (λ q. r0) ∷ numberAt s ∷ (λ q. 0) ∷ []) [] (λ q. kx, (λ q. kc, (λ q. kr, (λ q. refl, (λ q. refl, tt)))))
+      y (nextY s g everything origin y) top (in-play-passes s g everything .next-row origin tt y) (omega (arith, next-y-ends s g everything origin y bottom))
 
--- the next column and row in play, by the walk's own numbers
+-- the next column and row in play, by the walk's own numbers; and they grow
 module _ (s : Sheet) (g : Range) (prep : List ℕ) (w : Walk) (marks : List ℕ) (ready : Ready s g prep w marks) where
   pub column-is : (y x z : ℕ) → z ≡ nextBefore (w .tx1) (rangeBy (w .resno0) (w .resno1) (w .compno0) (w .compno1)) (playX s (atRow y)) (stepX s) x
       → (z ≡ nextX s g everything (pointOf 0 0 0 y) x) × (x < z)
-  column-is y x z =
-      column-by s g _ _ _ ready everything (pointOf 0 0 0 y) _ _ _ _ (ready .ranged .resno0) (ready .ranged .resno1) (ready .ranged .compno0) (ready .ranged .compno1) x z
+  unfolding nextInPlay
+  column-is y x z e =
+      let q = ready .ranged in
+      let t : z ≡ nextX s g everything (pointOf 0 0 0 y) x = e ∙ rw (q .tx1, q .resno0, q .resno1, q .compno0, q .compno1) in
+      (t, rw t (next-x-grows s g everything (pointOf 0 0 0 y) x))
 
   pub row-is : (y z : ℕ) → z ≡ nextBefore (w .ty1) (rangeBy (w .resno0) (w .resno1) (w .compno0) (w .compno1)) (playY s) (stepY s) y
       → (z ≡ nextY s g everything origin y) × (y < z)
-  row-is y z =
-      row-by s g _ _ _ ready everything origin _ _ _ _ (ready .ranged .resno0) (ready .ranged .resno1) (ready .ranged .compno0) (ready .ranged .compno1) y z
+  unfolding nextInPlay
+  row-is y z e =
+      let q = ready .ranged in
+      let t : z ≡ nextY s g everything origin y = e ∙ rw (q .ty1, q .resno0, q .resno1, q .compno0, q .compno1) in
+      (t, rw t (next-y-grows s g everything origin y))

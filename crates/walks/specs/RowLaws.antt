@@ -21,9 +21,9 @@ use Rattle.packets.specs.Met.{precincts-of, precincts-in, ordered-y}
 use Rattle.packets.specs.Positions.{met}
 use Rattle.walks.specs.Prepared.{field, widthIn, hitBy, Entry, atRow, cellOf}
 use Rattle.walks.specs.Cells.{some, wide-of, hit-y, step-pos-x, cell-no-column, column-from, number-small, cell-met}
-use Rattle.walks.specs.Nexts.{columns-out, columns-row, step-columns, play-x, play-y}
+use Rattle.walks.specs.Nexts.{columns-out, columns-row, step-columns, play-y}
 use Rattle.walks.specs.Turns.{play-part}
-use Rattle.walks.specs.InRow.{rowOf, AtRow, Row, RowPoint, RowPlay}
+use Rattle.walks.specs.InRow.{rowOf, AtRow, Row, RowPoint, PointPlay}
 use Rattle.walks.specs.declared.cell.Cell.the-variants.{At, Nothing}
 
 -- IN PLAY, where what is noted is not 0
@@ -52,6 +52,12 @@ module _ (s : Sheet) (prep : List ℕ) (r c y : ℕ) (e : Entry s prep r c) (k :
 pub row-part : (s : Sheet) (prep : List ℕ) (r0 r1 c0 c1 y r c : ℕ) → AtRow s prep r0 r1 c0 c1 y → r0 ≤ r → r < r1 → c0 ≤ c → c < c1 → AtRow s prep r (r + 1) c (c + 1) y
 row-part s prep r0 r1 c0 c1 y r c a p q i j =
     record { play = play-part s prep r0 r1 c0 c1 r (r + 1) c (c + 1) (a .play) p (omega arith) i (omega arith); top = a .top; bottom = a .bottom }
+
+pub point-part : (s : Sheet) (prep row : List ℕ) (r0 r1 c0 c1 x y r c : ℕ) → PointPlay s prep row r0 r1 c0 c1 x y → r0 ≤ r → r < r1 → c0 ≤ c → c < c1
+    → RowPoint s prep row r c x y
+point-part s prep row r0 r1 c0 c1 x y r c h a b i j =
+    let t = row-part s prep r0 r1 c0 c1 y r c (h .at) a b i j in
+    record { point = record { play = t .play; left = h .left; right = h .right; top = t .top; bottom = t .bottom }; noted = h .noted r c a b i j }
 
 -- A ROW, by the prepared numbers
 module _ (s : Sheet) (prep : List ℕ) (r c y : ℕ) (a : AtRow s prep r (r + 1) c (c + 1) y) where
@@ -124,10 +130,20 @@ module _ (s : Sheet) (prep row : List ℕ) (r c x y : ℕ) (h : RowPoint s prep 
       by true false d e = refl
       by false b d e = refl
 
+  -- nor is anything in play there
+  pub noted-out : getD row (16 * r + c) 0 ≡ 0 → playX s (atRow y) c r ≡ false
+  noted-out z = row-out s r c y (sym (h .noted) ∙ z)
+
   module _ (n : 0 < getD row (16 * r + c) 0) where
+    pub noted-in : playX s (atRow y) c r ≡ true
+    noted-in = row-in s r c y (rw (h .noted) at n)
+
     sure : (0 < widthIn prep r c) × (hitBy (field prep r c 2) (field prep r c 4) y ≡ true)
     sure =
-        shown s prep r c y (row-entry s prep r c y at-row) (row-inside s prep r c y at-row) (row-in s r c y (omega (arith, h .noted)))
+        shown s prep r c y (row-entry s prep r c y at-row) (row-inside s prep r c y at-row) noted-in
+
+    pub noted-columns : stepX s c r ≡ field prep r c 1
+    noted-columns = step-columns s prep r c (row-entry s prep r c y at-row) (sure .0)
 
     pub noted-step : 1 ≤ field prep r c 1
     noted-step = step-pos-x s prep r c x y (h .point) (sure .0)
@@ -151,27 +167,6 @@ module _ (s : Sheet) (prep row : List ℕ) (r c x y : ℕ) (h : RowPoint s prep 
       -- the precinct that is met
       pub noted-met : At (x / field prep r c 1 - field prep r c 5 + (getD row (16 * r + c) 0 - 1)) ≡ cellOf s r c x y
       noted-met = rw start-is (cell-met s prep r c x y (h .point) (sure .0) (sure .1) q)
-
--- A TURN over a row that is noted
-module _ (s : Sheet) (prep row : List ℕ) (r0 r1 c0 c1 y r c : ℕ) (h : RowPlay s prep row r0 r1 c0 c1 y) (a : r0 ≤ r) (b : r < r1) (i : c0 ≤ c) (j : c < c1) where
-  turn-entry : Entry s prep r c
-  turn-entry = h .at .play .entry r c a b i j
-
-  pub noted-out : getD row (16 * r + c) 0 ≡ 0 → playX s (atRow y) c r ≡ false
-  noted-out z = row-out s r c y (sym (h .noted r c a b i j) ∙ z)
-
-  module _ (n : 0 < getD row (16 * r + c) 0) where
-    pub noted-in : playX s (atRow y) c r ≡ true
-    noted-in = row-in s r c y (rw (h .noted r c a b i j) at n)
-
-    turn-wide : 0 < widthIn prep r c
-    turn-wide = shown s prep r c y turn-entry (omega (arith, h .at .bottom, h .at .play .ends-y)) noted-in .0
-
-    pub noted-columns : stepX s c r ≡ field prep r c 1
-    noted-columns = step-columns s prep r c turn-entry turn-wide
-
-    pub noted-pos : 1 ≤ field prep r c 1
-    noted-pos = play-x s prep r0 r1 c0 c1 r c (h .at .play) a b i j turn-wide
 
 -- NOTING: what two loops have noted so far, of the components before c and of c itself before r
 abbrev pub Noted : Sheet → List ℕ → ℕ → ℕ → ℕ → ℕ → ℕ → ℕ → Type 0

@@ -1,10 +1,9 @@
-// The listing in the order CPRL: component, y, x, resolution, layer (T.800 B.12.1.5).
-use crate::list::list_cell;
-use crate::next::next_row;
-use crate::row::fill_row;
-use crate::row::next_in_row;
+// The listing in the order CPRL: one component after the other, each in the order PCRL (T.800 B.12.1.5).
+use crate::list_pcrl::list_pcrl;
 use crate::walk::Walk;
+use crate::walk::part;
 ghost use mathlib.Core.Path.{_≡_};
+ghost use lib.ListN.{length};
 ghost use Rattle.packets.specs.Tile.{Sheet, indexOf};
 ghost use Rattle.packets.specs.Orders.{Range};
 ghost use Rattle.walks.specs.Walk.{Ready};
@@ -12,43 +11,27 @@ ghost use Rattle.walks.specs.Cprl.{wholly};
 ghost use Rattle.walks.specs.Running.{Total, totalOf};
 ghost use Rattle.walks.specs.Listing.{SomeListing};
 
-// Lists every packet of the ranges, with n packets before them; answers how many there are then.
+// Lists every packet of the ranges, with n packets before them; answers how many there are then. The row is working space.
 pub(crate) fn list_cprl(
     marks: &mut [u8],
     output: &mut [u8],
+    row: &mut [u32; 528],
     prep: &[u32; 3696],
     w: Walk,
     n: u32,
 ) -> u32
-    requires { ⌜ SomeListing (λ s g. Ready s g (now prep) w (now marks)) (wholly w) (now marks) n ⌝ }
-    ensures { λ r. ⌜ ((s : Sheet) (g : Range) → Ready s g (now (prep .entry)) w (now (marks .entry)) → _≡_ {A = Total} (record { count = r; marks = now (marks .exit); output = now (output .exit) }) (totalOf (indexOf (s .st)) (now (marks .entry)) (now (output .entry)) n (wholly w s g))) ⌝ }
+    requires { ⌜ (length (now row) ≡ 528) × SomeListing (λ s g. Ready s g (now prep) w (now marks)) (wholly w) (now marks) n ⌝ }
+    ensures { λ r. ⌜ (length (now (row .exit)) ≡ 528) × ((s : Sheet) (g : Range) → Ready s g (now (prep .entry)) w (now (marks .entry)) → _≡_ {A = Total} (record { count = r; marks = now (marks .exit); output = now (output .exit) }) (totalOf (indexOf (s .st)) (now (marks .entry)) (now (output .entry)) n (wholly w s g))) ⌝ }
 {
     let resno0 = w.resno0;
     let resno1 = w.resno1;
     let compno0 = w.compno0;
     let compno1 = w.compno1;
-    let tx0 = w.tx0;
-    let ty0 = w.ty0;
-    let tx1 = w.tx1;
-    let ty1 = w.ty1;
     let mut count = n;
-    let mut row = [0u32; 528];
     let mut c = compno0;
     'cs: while c < compno1 {
-        let mut y = ty0;
-        'ys: while y < ty1 {
-            fill_row(&mut row, prep, resno0, resno1, c, c + 1, y);
-            let mut x = tx0;
-            'xs: while x < tx1 {
-                let mut r = resno0;
-                'rs: while r < resno1 {
-                    count = list_cell(marks, output, prep, &row, w, r, c, x, y, count);
-                    r += 1;
-                }
-                x = next_in_row(prep, &row, resno0, resno1, c, c + 1, x, tx1);
-            }
-            y = next_row(prep, resno0, resno1, c, c + 1, y, ty1);
-        }
+        let one = part(w, resno0, resno1, c, c + 1);
+        count = list_pcrl(marks, output, row, prep, one, count);
         c += 1;
     }
     count

@@ -2,11 +2,12 @@
 // for columns, that the row y meets. Beyond the last there is the end.
 use crate::cell::hits;
 ghost use mathlib.Core.Path.{_≡_};
-ghost use Prim.Native.Nat.{_-_, _%_, _<_, _≤_, min};
+ghost use Prim.Native.Nat.{_+_, _-_, _%_, _<_, _≤_, min};
 ghost use Rattle.packets.specs.Tile.{Sheet};
 ghost use Rattle.packets.specs.InPlay.{nextBefore, playX, playY};
 ghost use Rattle.packets.specs.Grid.{stepX, stepY};
 ghost use Rattle.walks.specs.Prepared.{InPlay, SomePlay, rangeBy, atRow};
+ghost use Rattle.walks.specs.Nexts.{nearerBy};
 
 // The distance from z to the next multiple of the step, if that is less.
 pub(crate) fn nearer(best: u32, step: u32, z: u32) -> u32
@@ -15,6 +16,18 @@ pub(crate) fn nearer(best: u32, step: u32, z: u32) -> u32
 {
     let d = step - z % step;
     if d < best { d } else { best }
+}
+
+// The distance from row y to the next that can meet a precinct of component c at resolution r, if that is less.
+pub(crate) fn nearer_row(prep: &[u32; 3696], r: u32, c: u32, y: u32, best: u32) -> u32
+    requires { ⌜ SomePlay (now prep) r (r + 1) c (c + 1) ⌝ }
+    ensures { λ n. ⌜ ((s : Sheet) → InPlay s (now (prep .entry)) r (r + 1) c (c + 1) → n ≡ nearerBy (playY s c r) (stepY s c r) y best) ⌝ }
+{
+    let at = 7 * (16 * (r as usize) + (c as usize));
+    if prep[at] == 0 {
+        return best;
+    }
+    nearer(best, prep[at + 2], y)
 }
 
 pub(crate) fn next_row(
@@ -34,15 +47,27 @@ pub(crate) fn next_row(
     'cs: while c < c1 {
         let mut r = r0;
         'rs: while r < r1 {
-            let at = 7 * (16 * (r as usize) + (c as usize));
-            if prep[at] != 0 {
-                best = nearer(best, prep[at + 2], y);
-            }
+            best = nearer_row(prep, r, c, y, best);
             r += 1;
         }
         c += 1;
     }
     y + best
+}
+
+// The distance from column x to the next at which row y can meet one, if that is less.
+fn nearer_column(prep: &[u32; 3696], r: u32, c: u32, y: u32, x: u32, best: u32) -> u32
+    requires { ⌜ (y < 4294967295) × SomePlay (now prep) r (r + 1) c (c + 1) ⌝ }
+    ensures { λ n. ⌜ ((s : Sheet) → InPlay s (now (prep .entry)) r (r + 1) c (c + 1) → n ≡ nearerBy (playX s (atRow y) c r) (stepX s c r) x best) ⌝ }
+{
+    let at = 7 * (16 * (r as usize) + (c as usize));
+    if prep[at] == 0 {
+        return best;
+    }
+    if !hits(y, prep[at + 2], prep[at + 4]) {
+        return best;
+    }
+    nearer(best, prep[at + 1], x)
 }
 
 pub(crate) fn next_column(
@@ -55,20 +80,15 @@ pub(crate) fn next_column(
     x: u32,
     end: u32,
 ) -> u32
-    requires { ⌜ (x < end) × SomePlay (now prep) r0 r1 c0 c1 ⌝ }
-    ensures { λ z. ⌜ ((s : Sheet) → InPlay s (now (prep .entry)) r0 r1 c0 c1 → y < 4294967295 → z ≡ nextBefore end (rangeBy r0 r1 c0 c1) (playX s (atRow y)) (stepX s) x) ⌝ }
+    requires { ⌜ (x < end) × (y < 4294967295) × SomePlay (now prep) r0 r1 c0 c1 ⌝ }
+    ensures { λ z. ⌜ ((s : Sheet) → InPlay s (now (prep .entry)) r0 r1 c0 c1 → z ≡ nextBefore end (rangeBy r0 r1 c0 c1) (playX s (atRow y)) (stepX s) x) ⌝ }
 {
     let mut best = end - x;
     let mut c = c0;
     'cs: while c < c1 {
         let mut r = r0;
         'rs: while r < r1 {
-            let at = 7 * (16 * (r as usize) + (c as usize));
-            if prep[at] != 0 {
-                if hits(y, prep[at + 2], prep[at + 4]) {
-                    best = nearer(best, prep[at + 1], x);
-                }
-            }
+            best = nearer_column(prep, r, c, y, x, best);
             r += 1;
         }
         c += 1;

@@ -12,6 +12,7 @@ use packets::state::State;
 ghost use mathlib.Core.Path.{_≡_};
 ghost use mathlib.Core.Bool.{false};
 ghost use Prim.Native.Nat.{ℕ};
+ghost use lib.ListN.{length};
 ghost use mathlib.Core.List.{List};
 ghost use Rattle.packets.specs.Tile.{indexOf};
 ghost use Rattle.packets.specs.Sound.{positionsFor};
@@ -43,24 +44,25 @@ fn list_counted(marks: &mut [u8], output: &mut [u8], counts: &[u32; 528], plan: 
     }
 }
 
-// Lists any planned progression.
+// Lists any planned progression. The row is working space.
 fn list_progression(
     marks: &mut [u8],
     output: &mut [u8],
+    row: &mut [u32; 528],
     counts: &[u32; 528],
     prep: &[u32; 3696],
     plan: Plan,
     n: u32,
 ) -> u32
-    requires { ⌜ SomeFilledRun (now counts) (now prep) plan (now marks) n ⌝ }
-    ensures { λ r. ⌜ ((st : _) (table : List ℕ) (k : ℕ) → Planned st table k (now (counts .entry)) plan (now (marks .entry)) → AllFilled st table (now (prep .entry)) → _≡_ {A = Total} (record { count = r; marks = now (marks .exit); output = now (output .exit) }) (totalOf (indexOf st) (now (marks .entry)) (now (output .entry)) n (positionsFor st table k))) ⌝ }
+    requires { ⌜ (length (now row) ≡ 528) × SomeFilledRun (now counts) (now prep) plan (now marks) n ⌝ }
+    ensures { λ r. ⌜ (length (now (row .exit)) ≡ 528) × ((st : _) (table : List ℕ) (k : ℕ) → Planned st table k (now (counts .entry)) plan (now (marks .entry)) → AllFilled st table (now (prep .entry)) → _≡_ {A = Total} (record { count = r; marks = now (marks .exit); output = now (output .exit) }) (totalOf (indexOf st) (now (marks .entry)) (now (output .entry)) n (positionsFor st table k))) ⌝ }
 {
     let order = plan.order;
     let w = plan.walk;
     match order {
-        2 => list_rpcl(marks, output, prep, w, n),
-        3 => list_pcrl(marks, output, prep, w, n),
-        4 => list_cprl(marks, output, prep, w, n),
+        2 => list_rpcl(marks, output, row, prep, w, n),
+        3 => list_pcrl(marks, output, row, prep, w, n),
+        4 => list_cprl(marks, output, row, prep, w, n),
         _ => list_counted(marks, output, counts, plan, n),
     }
 }
@@ -92,12 +94,13 @@ fn list_rest(
         st.tx0,
         st.ty0,
     );
+    let mut row = [0u32; 528];
     let progressions = st.progressions;
     let mut count = n;
     let mut k = k_from;
     'runs: while k < progressions {
         let plan = plan_of(st, k);
-        count = list_progression(marks, output, counts, &prep, plan, count);
+        count = list_progression(marks, output, &mut row, counts, &prep, plan, count);
         k += 1;
     }
     count

@@ -5,6 +5,7 @@ ghost use Prim.Native.Nat.{_+_, _*_, _<_};
 ghost use lib.ListN.{length, getD};
 ghost use lib.Dec.{eqb};
 ghost use Rattle.walks.specs.Walk.{indexBy};
+ghost use Rattle.walks.specs.Part.{partBy};
 
 // A progression's ranges, the tile and the strides, as plain numbers.
 pub(crate) struct Walk {
@@ -20,6 +21,26 @@ pub(crate) struct Walk {
     pub stride_l: u32,
     pub stride_r: u32,
     pub stride_c: u32,
+}
+
+// The walk over resolutions r0 to r1 of components c0 to c1 alone.
+pub(crate) fn part(w: Walk, r0: u32, r1: u32, c0: u32, c1: u32) -> Walk
+    ensures { λ r. ⌜ r ≡ partBy w r0 r1 c0 c1 ⌝ }
+{
+    Walk {
+        layno1: w.layno1,
+        resno0: r0,
+        resno1: r1,
+        compno0: c0,
+        compno1: c1,
+        tx0: w.tx0,
+        ty0: w.ty0,
+        tx1: w.tx1,
+        ty1: w.ty1,
+        stride_l: w.stride_l,
+        stride_r: w.stride_r,
+        stride_c: w.stride_c,
+    }
 }
 
 // What a search ends with.

@@ -1,30 +1,24 @@
 -- `next_row`: y + best is the least next multiple of what the two loops have passed, for every sheet that is so prepared; at their end of all. Assumes nothing.
-use Rattle.walks.specs.Nexts.{onward, next-all, turn-out, turn-in, rows-out, rows-in, step-rows, play-y}
-use Rattle.walks.specs.Prepared.{field, widthIn, Entry, InPlay}
+use Prim.Native.Nat.{_-_, _≤_, max}
+use native.Mathlib.Omega.{arith}
 use Rattle.packets.specs.Grid.{stepY}
 use Rattle.packets.specs.InPlay.{playY}
-use Rattle.packets.specs.Tile.{Sheet}
-use Rattle.laws.specs.Least.{leastBefore, leastSeen, seen-none, seen-enter, seen-leave}
-use Prim.Native.Nat.{ℕ, _+_, _-_, _≤_, _<_, max}
-use mathlib.Core.Logic.{⊎-elim}
-use mathlib.Core.Path.{_≡_, ap, _∙_}
-use denote.Ref.{now}
-use native.Mathlib.Omega.{arith}
+use Rattle.walks.specs.Prepared.{InPlay}
+use Rattle.walks.specs.Turns.{play-part}
+use Rattle.walks.specs.Nexts.{NearestBefore, NearestSeen, nearest-first, nearest-enter, nearest-turn, nearest-leave, nearest-all}
 use Rattle.walks.proofs.next.next_row.Statement.{statement}
 use Rattle.walks.proofs.next.next_row.Tie as tie
 
 abbrev Inv-rs : tie.InvT-rs
 Inv-rs prep r0 r1 c0 c1 y end best₀ c r₀ best r =
-    (r0 ≤ r) × (r ≤ max r0 r1) × (y + best ≤ end)
-    × ((s : Sheet) → InPlay s prep r0 r1 c0 c1 → y + best ≡ leastSeen end (onward (playY s) (stepY s) end y) r0 r1 c0 c r)
+    (r0 ≤ r) × (r ≤ max r0 r1) × NearestSeen (λ s. InPlay s prep r0 r1 c0 c1) playY stepY end y r0 r1 c0 c r best
 
 abbrev μ-rs : tie.MeasureT-rs
 μ-rs prep r0 r1 c0 c1 y end best₀ c r₀ best r = r1 - r
 
 abbrev Inv-cs : tie.InvT-cs
 Inv-cs prep r0 r1 c0 c1 y end best₀ c₀ best c =
-    (c0 ≤ c) × (c ≤ max c0 c1) × (y + best ≤ end)
-    × ((s : Sheet) → InPlay s prep r0 r1 c0 c1 → y + best ≡ leastBefore end (onward (playY s) (stepY s) end y) r0 r1 c0 c)
+    (c0 ≤ c) × (c ≤ max c0 c1) × NearestBefore (λ s. InPlay s prep r0 r1 c0 c1) playY stepY end y r0 r1 c0 c best
 
 abbrev μ-cs : tie.MeasureT-cs
 μ-cs prep r0 r1 c0 c1 y end best₀ c₀ best c = c1 - c
@@ -33,50 +27,15 @@ sub-best : tie.Need-sub-best Inv-rs μ-rs Inv-cs μ-cs
 sub-best c = omega arith
 
 cs-holds : tie.Need-cs-holds Inv-rs μ-rs Inv-cs μ-cs
-cs-holds c =
-    let a = c .args in
-    (omega arith, omega arith, omega arith, λ s h. rw (seen-none (a .end) (onward (playY s) (stepY s) (a .end) (a .y)) (a .r0) (a .r1) (a .c0)) (omega arith))
+cs-holds c = (omega arith, omega arith, nearest-first _ _ _ _ _ _ _ _ _ (omega arith))
 
 rs-holds : tie.Need-rs-holds Inv-rs μ-rs Inv-cs μ-cs
-rs-holds c =
-    let a = c .before .before .args in
-    (omega arith, omega arith, omega arith, λ s h. rw (seen-enter (a .end) (onward (playY s) (stepY s) (a .end) (a .y)) (a .r0) (a .r1) (a .c0) (c .before .cs .c)) (c .before .cs .inv .3 s h))
+rs-holds c = (omega arith, omega arith, nearest-enter (c .before .cs .inv .2))
 
-cast-at : tie.Need-cast-at Inv-rs μ-rs Inv-cs μ-cs
-cast-at c = let k = c .before .before .before .before .pre .1 .1 in omega (arith, k .resolutions, k .components)
-
-mul-at : tie.Need-mul-at Inv-rs μ-rs Inv-cs μ-cs
-mul-at c = let k = c .before .before .before .before .pre .1 .1 in omega (arith, k .resolutions, k .components)
-
-cast-at-2 : tie.Need-cast-at-2 Inv-rs μ-rs Inv-cs μ-cs
-cast-at-2 c = let k = c .before .before .before .before .pre .1 .1 in omega (arith, k .resolutions, k .components)
-
-add-at : tie.Need-add-at Inv-rs μ-rs Inv-cs μ-cs
-add-at c = let k = c .before .before .before .before .pre .1 .1 in omega (arith, k .resolutions, k .components)
-
-mul-at-2 : tie.Need-mul-at-2 Inv-rs μ-rs Inv-cs μ-cs
-mul-at-2 c = let k = c .before .before .before .before .pre .1 .1 in omega (arith, k .resolutions, k .components)
-
-mul-if1 : tie.Need-mul-if1 Inv-rs μ-rs Inv-cs μ-cs
-mul-if1 c = let k = c .before .before .before .before .pre .1 .1 in omega (arith, k .resolutions, k .components)
-
-element-copy-out-if1 : tie.Need-element-copy-out-if1 Inv-rs μ-rs Inv-cs μ-cs
-element-copy-out-if1 c = let k = c .before .before .before .before .pre .1 .1 in omega (arith, k .resolutions, k .components)
-
-add-nearer : tie.Need-add-nearer Inv-rs μ-rs Inv-cs μ-cs
-add-nearer c = let k = c .before .before .before .before .before .before .pre .1 .1 in omega (arith, k .resolutions, k .components)
-
-mul-nearer : tie.Need-mul-nearer Inv-rs μ-rs Inv-cs μ-cs
-mul-nearer c = let k = c .before .before .before .before .before .before .pre .1 .1 in omega (arith, k .resolutions, k .components)
-
-element-copy-out-nearer : tie.Need-element-copy-out-nearer Inv-rs μ-rs Inv-cs μ-cs
-element-copy-out-nearer c = let k = c .before .before .before .before .before .before .pre .1 .1 in omega (arith, k .resolutions, k .components)
-
-nearer-requires : tie.Need-nearer-requires Inv-rs μ-rs Inv-cs μ-cs
-nearer-requires c κs =
-    let a = c .before .before .before .before .before .before .before .args in
-    let w = c .before .before .before .before .before .before .before .pre in
-    play-y (w .1 .0) (now (a .prep)) (a .r0) (a .r1) (a .c0) (a .c1) (c .before .before .before .before .rs .r) (c .before .before .before .before .before .before .cs .c) (w .1 .1) (omega arith) (omega arith) (omega arith) (omega arith) (omega (arith, c .before .if1 .taken))
+nearer-row-requires : tie.Need-nearer-row-requires Inv-rs μ-rs Inv-cs μ-cs
+nearer-row-requires c κs =
+    let w = c .before .before .before .before .pre .1 in
+    (w .0, play-part _ _ _ _ _ _ _ _ _ _ (w .1) (omega arith) (omega arith) (omega arith) (omega arith))
 
 add-r : tie.Need-add-r Inv-rs μ-rs Inv-cs μ-cs
 add-r c = omega arith
@@ -86,33 +45,13 @@ rs-less c = omega arith
 
 rs-again : tie.Need-rs-again Inv-rs μ-rs Inv-cs μ-cs
 rs-again c =
-    let a = c .before .before .before .before .before .before .args in
-    let o = c .before .before .before .before .before .cs in
-    let i = c .before .before .before .rs in
-    let at : (s : Sheet) → InPlay s (now (a .prep)) (a .r0) (a .r1) (a .c0) (a .c1) → Entry s (now (a .prep)) (i .r) (o .c)
-    = λ s h. h .entry (i .r) (o .c) (omega arith) (omega arith) (omega arith) (omega arith) in
-    ⊎-elim
-    (λ w.
-    let n : 0 < widthIn (now (a .prep)) (i .r) (o .c) = omega (arith, w .0 .taken) in
-    let m = w .3 ∙ w .2 .ensures in (
+    let w = c .before .before .before .before .before .pre .1 in
+    let i = c .before .before .rs .inv in (
       omega arith,
       omega arith,
-      omega (arith, m),
-      λ s h.
-          ap (λ (b : ℕ). a .y + b) m
-          ∙ turn-in (playY s) (stepY s) (a .end) (a .y) (a .r0) (a .r1) (a .c0) (o .c) (i .r) (i .best) (i .inv .3 s h) (i .inv .0)
-          (field (now (a .prep)) (i .r) (o .c) 2) (rows-in s (now (a .prep)) (i .r) (o .c) (at s h) n) (step-rows s (now (a .prep)) (i .r) (o .c) (at s h) n),
-    ))
-    (λ w. (
-      omega arith,
-      omega arith,
-      omega (arith, w .1),
-      λ s h.
-          ap (λ (b : ℕ). a .y + b) (w .1)
-          ∙ turn-out (playY s) (stepY s) (a .end) (a .y) (a .r0) (a .r1) (a .c0) (o .c) (i .r) (i .best) (i .inv .3 s h) (i .inv .0)
-          (i .inv .2) (rows-out s (now (a .prep)) (i .r) (o .c) (at s h) (w .0 .left)),
-    ))
-    (c .if1 .came)
+      nearest-turn _ (i .2) (i .0) (w .0) (w .1)
+          (λ s h. c .nearer-row .ensures s (play-part _ _ _ _ _ _ _ _ _ _ h (omega arith) (omega arith) (omega arith) (omega arith))),
+    )
 
 add-c : tie.Need-add-c Inv-rs μ-rs Inv-cs μ-cs
 add-c c = omega arith
@@ -121,17 +60,13 @@ cs-less : tie.Need-cs-less Inv-rs μ-rs Inv-cs μ-cs
 cs-less c = omega arith
 
 cs-again : tie.Need-cs-again Inv-rs μ-rs Inv-cs μ-cs
-cs-again c =
-    let a = c .before .before .before .before .args in
-    (omega arith, omega arith, omega arith, λ s h. c .before .rs .inv .3 s h ∙ seen-leave (a .end) (onward (playY s) (stepY s) (a .end) (a .y)) (a .r0) (a .r1) (a .c0) (c .before .before .before .cs .c) (c .before .rs .r) (omega arith) (omega arith) (omega arith) (omega arith))
+cs-again c = (omega arith, omega arith, nearest-leave (c .before .rs .inv .2) (omega arith) (omega arith) (omega arith) (omega arith))
 
 add-result : tie.Need-add-result Inv-rs μ-rs Inv-cs μ-cs
 add-result c = omega arith
 
 returns : tie.Need-returns Inv-rs μ-rs Inv-cs μ-cs
-returns c =
-    let a = c .before .before .args in
-    λ s h. c .before .cs .inv .3 s h ∙ next-all (playY s) (stepY s) (a .end) (a .y) (a .r0) (a .r1) (a .c0) (a .c1) (c .before .cs .c) (c .before .before .pre .0) (omega arith) (omega arith) (omega arith)
+returns c s h = nearest-all (c .before .cs .inv .2) (c .before .before .pre .0) (omega arith) (omega arith) (omega arith) s h
 
 pub next-row-spec : {M : Type 1} → statement M
 next-row-spec =
@@ -144,17 +79,7 @@ next-row-spec =
     sub-best
     cs-holds
     rs-holds
-    cast-at
-    mul-at
-    cast-at-2
-    add-at
-    mul-at-2
-    mul-if1
-    element-copy-out-if1
-    add-nearer
-    mul-nearer
-    element-copy-out-nearer
-    nearer-requires
+    nearer-row-requires
     add-r
     rs-less
     rs-again

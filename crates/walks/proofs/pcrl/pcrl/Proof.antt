@@ -111,8 +111,7 @@ column-here : (c : tie.After-next-column Inv-ls μ-ls Inv-rs μ-rs Inv-cs μ-cs 
 column-here c s g h =
     column-is s g _ _ _ h _ _ _
     (c .next-column .ensures s
-    (in-play s g _ _ _ h _ _ _ _ (omega arith) (omega arith) (omega arith) (omega arith))
-    (omega (arith, c .before .before .before .before .before .search-test .taken, h .ranged .ty1, h .play .ends-y)))
+    (in-play s g _ _ _ h _ _ _ _ (omega arith) (omega arith) (omega arith) (omega arith)))
 
 column-up : (c : tie.After-next-column Inv-ls μ-ls Inv-rs μ-rs Inv-cs μ-cs Inv-xs μ-xs Inv-search μ-search) → c .before .before .before .before .xs .x < c .next-column .result
 column-up c = let p = c .before .before .before .before .before .before .before .before .pre .0 in column-here c (p .0) (p .1 .0) (p .1 .1) .1
@@ -233,7 +232,11 @@ next-column-requires :
     Inv-search
     μ-search
 next-column-requires c κs = let p = c .before .before .before .before .before .before .before .pre .0 in
-    (c .before .before .xs-test .taken, (p .0, in-play (p .0) (p .1 .0) _ _ _ (p .1 .1) _ _ _ _ (omega arith) (omega arith) (omega arith) (omega arith)))
+    let h = p .1 .1 in (
+      c .before .before .xs-test .taken,
+      omega (arith, c .before .before .before .before .search-test .taken, h .ranged .ty1, h .play .ends-y),
+      (p .0, in-play (p .0) (p .1 .0) _ _ _ h _ _ _ _ (omega arith) (omega arith) (omega arith) (omega arith)),
+    )
 
 xs-less : tie.Need-xs-less Inv-ls μ-ls Inv-rs μ-rs Inv-cs μ-cs Inv-xs μ-xs Inv-search μ-search
 xs-less c = omega (arith, column-up c, c .before .before .before .xs-test .taken)

@@ -1,358 +1,95 @@
--- `rpcl` meets its contract. Each of the five loops keeps one thing, for every sheet and range that the walk is ready for (`Kept`): nothing is found yet, and
--- what is left at this loop answers as what was to be searched at entry. So a turn is one law of specs/Rpcl: LOOP-holds is an `in` law, LOOP-again an `out` law of
--- the inner loop and a `next` law; the innermost loops go by specs/AtPoint. `left` says what holds where the loops have been left. Assumes nothing.
+-- `rpcl` meets its contract: what is left from the resolution at which the loop stands answers as what was to be searched at entry. A turn is the law
+-- `one-left` of specs/Rpcl: PCRL searches one resolution, and the rest is left. Assumes nothing.
 use borrow.Author.Needs.{needs}
 use mathlib.Core.Path.{_≡_, refl, sym, ap, _∙_}
-use mathlib.Core.Bool.{Bool, true}
-use mathlib.Core.List.{List}
-use mathlib.Core.Logic.{⊎-elim}
-use Prim.Native.Nat.{ℕ, _-_, _≤_, _<_}
+use Prim.Native.Nat.{_+_, _-_, _≤_}
 use native.Mathlib.Omega.{arith}
-use Rattle.laws.specs.Runs.{seek}
-use Rattle.packets.specs.Tile.{Sheet}
+use denote.Ref.{now}
+use Rattle.laws.specs.Runs.{orElse, seek}
+use Rattle.packets.specs.Tile.{Sheet, indexOf}
 use Rattle.packets.specs.Orders.{Range}
-use Rattle.packets.specs.Positions.{met, numberAt}
-use Rattle.packets.specs.Strided.{oneResolution}
-use Rattle.packets.specs.InPlay.{nextX, nextY}
-use Rattle.packets.specs.declared.cursor.Position.{Position}
-use Rattle.walks.specs.Prepared.{pointOf, cellOf}
-use Rattle.walks.specs.Walk.{Ready}
-use Rattle.walks.specs.Turns.{Stands, at-point, in-play, cell-met, cell-missed, mark-fits, mark-there, mark-read}
-use Rattle.walks.specs.Going.{Going, Rest, Left, onward, passed, left-out, left-found}
-use Rattle.walks.specs.AtPoint.{leftL, meets, misses, outL, foundL, passL}
-use Rattle.walks.specs.Rpcl.{entry, enter, leftR, leftY, leftX, leftC, afterC, inR, outR, onR, inY, outY, onY, inX, outX, onX, inC, outC, onC, column-is, row-is}
-use Rattle.walks.specs.declared.walk.Walk.{Walk}
+use Rattle.walks.specs.Walk.{answerOf, Ready}
+use Rattle.walks.specs.Going.{Alike, part-searched}
+use Rattle.walks.specs.Pcrl as pcrl
+use Rattle.walks.specs.Rpcl.{entry, onFrom, alone, none-left, ready-alone, one-left}
 use Rattle.walks.proofs.rpcl.rpcl.Statement.{statement}
 use Rattle.walks.proofs.rpcl.rpcl.Tie as tie
 
--- nothing is found yet, and the rest answers as the whole at entry
-abbrev Kept : List ℕ → List ℕ → Walk → ℕ → ℕ → ℕ → ℕ → ℕ → Bool → Rest → Type 0
-Kept marks prep w r y x c l found rest = Going (λ s g. Ready s g prep w marks) marks found (entry r y x c l) rest
-
-abbrev Inv-ls : tie.InvT-ls
-Inv-ls marks prep w r-from y-from x-from c-from l-from layno1 resno1 compno0 compno1 tx0 ty0 tx1 ty1 y-at x-at c-at l-at found₀ place₀ r y x c k l₀ found place l =
-    Kept marks prep w r-from y-from x-from c-from l-from found (leftL (afterC r y x c) r c x y k l)
-
-abbrev μ-ls : tie.MeasureT-ls
-μ-ls marks prep w r-from y-from x-from c-from l-from layno1 resno1 compno0 compno1 tx0 ty0 tx1 ty1 y-at x-at c-at l-at found₀ place₀ r y x c k l₀ found place l =
-    w .layno1 - l
-
-abbrev Inv-cs : tie.InvT-cs
-Inv-cs marks prep w r-from y-from x-from c-from l-from layno1 resno1 compno0 compno1 tx0 ty0 tx1 ty1 y-at x-at c-at l-at₀ found₀ place₀ r y x c₀ l-at found place c =
-    (w .compno0 ≤ c) × Kept marks prep w r-from y-from x-from c-from l-from found (leftC r y x c l-at)
-
-abbrev μ-cs : tie.MeasureT-cs
-μ-cs marks prep w r-from y-from x-from c-from l-from layno1 resno1 compno0 compno1 tx0 ty0 tx1 ty1 y-at x-at c-at l-at₀ found₀ place₀ r y x c₀ l-at found place c =
-    w .compno1 - c
-
-abbrev Inv-xs : tie.InvT-xs
-Inv-xs marks prep w r-from y-from x-from c-from l-from layno1 resno1 compno0 compno1 tx0 ty0 tx1 ty1 y-at x-at c-at₀ l-at₀ found₀ place₀ r y x₀ c-at l-at found place x =
-    (w .tx0 ≤ x) × (w .compno0 ≤ c-at) × Kept marks prep w r-from y-from x-from c-from l-from found (leftX r y x c-at l-at)
-
-abbrev μ-xs : tie.MeasureT-xs
-μ-xs marks prep w r-from y-from x-from c-from l-from layno1 resno1 compno0 compno1 tx0 ty0 tx1 ty1 y-at x-at c-at₀ l-at₀ found₀ place₀ r y x₀ c-at l-at found place x =
-    w .tx1 - x
-
-abbrev Inv-ys : tie.InvT-ys
-Inv-ys marks prep w r-from y-from x-from c-from l-from layno1 resno1 compno0 compno1 tx0 ty0 tx1 ty1 y-at x-at₀ c-at₀ l-at₀ found₀ place₀ r y₀ x-at c-at l-at found place y =
-    (w .ty0 ≤ y) × (w .tx0 ≤ x-at) × (w .compno0 ≤ c-at) × Kept marks prep w r-from y-from x-from c-from l-from found (leftY r y x-at c-at l-at)
-
-abbrev μ-ys : tie.MeasureT-ys
-μ-ys marks prep w r-from y-from x-from c-from l-from layno1 resno1 compno0 compno1 tx0 ty0 tx1 ty1 y-at x-at₀ c-at₀ l-at₀ found₀ place₀ r y₀ x-at c-at l-at found place y =
-    w .ty1 - y
-
 abbrev Inv-search : tie.InvT-search
-Inv-search marks prep w r-from y-from x-from c-from l-from layno1 resno1 compno0 compno1 tx0 ty0 tx1 ty1 y-at₀ x-at₀ c-at₀ l-at₀ found₀ place₀ r₀ y-at x-at c-at l-at found place r =
-    (w .resno0 ≤ r) × (w .ty0 ≤ y-at) × (w .tx0 ≤ x-at) × (w .compno0 ≤ c-at) × Kept marks prep w r-from y-from x-from c-from l-from found (leftR r y-at x-at c-at l-at)
+Inv-search marks prep w r-from y-from x-from c-from l-from resno1 compno0 compno1 tx0 ty0 y-at₀ x-at₀ c-at₀ l-at₀ r₀ y-at x-at c-at l-at r =
+    (w .resno0 ≤ r) × (w .ty0 ≤ y-at) × (w .tx0 ≤ x-at) × (w .compno0 ≤ c-at)
+    × Alike (λ s g. Ready s g prep w marks) marks (entry r-from y-from x-from c-from l-from) (entry r y-at x-at c-at l-at)
 
 abbrev μ-search : tie.MeasureT-search
-μ-search marks prep w r-from y-from x-from c-from l-from layno1 resno1 compno0 compno1 tx0 ty0 tx1 ty1 y-at₀ x-at₀ c-at₀ l-at₀ found₀ place₀ r₀ y-at x-at c-at l-at found place r =
+μ-search marks prep w r-from y-from x-from c-from l-from resno1 compno0 compno1 tx0 ty0 y-at₀ x-at₀ c-at₀ l-at₀ r₀ y-at x-at c-at l-at r =
     w .resno1 - r
 
--- the walk is ready for a sheet and a range
-abbrev ReadyIn : tie.In-search Inv-ls μ-ls Inv-cs μ-cs Inv-xs μ-xs Inv-ys μ-ys Inv-search μ-search → Sheet → Range → Type 0
-ReadyIn c s g = let a = c .before .before .before .args in Ready s g (a .prep .now) (a .w) (a .marks .now)
-
--- the point at which the loops stand
-abbrev here : tie.In-cs Inv-ls μ-ls Inv-cs μ-cs Inv-xs μ-xs Inv-ys μ-ys Inv-search μ-search → Position
-here c = pointOf (c .before .before .before .before .before .before .before .search .r) (c .before .cs .c) (c .before .before .before .xs .x) (c .before .before .before .before .before .ys .y)
-
--- their numbers stand inside the ranges and the tile
-stands : (c : tie.In-cs Inv-ls μ-ls Inv-cs μ-cs Inv-xs μ-xs Inv-ys μ-ys Inv-search μ-search) → Stands (c .before .before .before .before .before .before .before .before .before .args .w) (c .before .before .before .before .before .before .before .search .r) (c .before .cs .c) (c .before .before .before .xs .x) (c .before .before .before .before .before .ys .y)
-stands c =
-    record {
-      res-from = c .before .before .before .before .before .before .before .search .inv .0;
-      res-to = c .before .before .before .before .before .before .search-test .taken;
-      comp-from = c .before .cs .inv .0;
-      comp-to = c .cs-test .taken;
-      left = c .before .before .before .xs .inv .0;
-      right = c .before .before .xs-test .taken;
-      top = c .before .before .before .before .before .ys .inv .0;
-      bottom = c .before .before .before .before .ys-test .taken;
-    }
-
--- what the cell answers, for every sheet that the walk is ready for
-cell-is : (c : tie.After-cell-at Inv-ls μ-ls Inv-cs μ-cs Inv-xs μ-xs Inv-ys μ-ys Inv-search μ-search) (s : Sheet) (g : Range)
-    → ReadyIn (c .before .before .before .before .before .before .before) s g
-    → c .cell-at .result ≡ cellOf s (c .before .before .before .before .before .before .before .before .search .r) (c .before .before .cs .c) (c .before .before .before .before .xs .x) (c .before .before .before .before .before .before .ys .y)
-cell-is c s g h = c .cell-at .ensures s (at-point s g _ _ _ h _ _ _ _ (stands (c .before)))
-
-met-here : (c : tie.In-ls Inv-ls μ-ls Inv-cs μ-cs Inv-xs μ-xs Inv-ys μ-ys Inv-search μ-search) (s : Sheet) (g : Range)
-    → ReadyIn (c .before .before .before .before .before .before .before .before .before .before .before .before) s g
-    → (met s (here (c .before .before .before .before .before .before)) ≡ true) × (c .before .before .before .k .given .0 .0 ≡ numberAt s (here (c .before .before .before .before .before .before)))
-met-here c s g h = cell-met s _ _ _ _ _ (sym (cell-is (c .before .before .before .before .before) s g h) ∙ c .before .before .before .k .given .1)
-
--- the next column and row, for every such sheet; and they grow
-column-here : (c : tie.After-next-column Inv-ls μ-ls Inv-cs μ-cs Inv-xs μ-xs Inv-ys μ-ys Inv-search μ-search) (s : Sheet) (g : Range)
-    → ReadyIn (c .before .before .before .before .before .before .before) s g
-    → (c .next-column .result ≡ nextX s g oneResolution (pointOf (c .before .before .before .before .before .before .before .before .search .r) 0 0 (c .before .before .before .before .before .before .ys .y)) (c .before .before .before .before .xs .x))
-    × (c .before .before .before .before .xs .x < c .next-column .result)
-column-here c s g h =
-    column-is s g _ _ _ h _ _ _ _
-    (c .next-column .ensures s
-    (in-play s g _ _ _ h _ _ _ _ (c .before .before .before .before .before .before .before .before .search .inv .0) (omega (arith, c .before .before .before .before .before .before .before .search-test .taken)) (omega arith) (omega arith))
-    (omega (arith, c .before .before .before .before .before .ys-test .taken, h .ranged .ty1, h .play .ends-y)))
-
-column-up : (c : tie.After-next-column Inv-ls μ-ls Inv-cs μ-cs Inv-xs μ-xs Inv-ys μ-ys Inv-search μ-search) → c .before .before .before .before .xs .x < c .next-column .result
-column-up c = let p = c .before .before .before .before .before .before .before .before .before .before .pre .0 in column-here c (p .0) (p .1 .0) (p .1 .1) .1
-
-row-here : (c : tie.After-next-row Inv-ls μ-ls Inv-cs μ-cs Inv-xs μ-xs Inv-ys μ-ys Inv-search μ-search) (s : Sheet) (g : Range)
-    → ReadyIn (c .before .before .before .before .before) s g
-    → (c .next-row .result ≡ nextY s g oneResolution (pointOf (c .before .before .before .before .before .before .search .r) 0 0 0) (c .before .before .before .before .ys .y))
-    × (c .before .before .before .before .ys .y < c .next-row .result)
-row-here c s g h =
-    row-is s g _ _ _ h _ _ _
-    (c .next-row .ensures s (in-play s g _ _ _ h _ _ _ _ (c .before .before .before .before .before .before .search .inv .0) (omega (arith, c .before .before .before .before .before .search-test .taken)) (omega arith) (omega arith)))
-
-row-up : (c : tie.After-next-row Inv-ls μ-ls Inv-cs μ-cs Inv-xs μ-xs Inv-ys μ-ys Inv-search μ-search) → c .before .before .before .before .ys .y < c .next-row .result
-row-up c = let p = c .before .before .before .before .before .before .before .before .pre .0 in row-here c (p .0) (p .1 .0) (p .1 .1) .1
-
-search-holds :
-    tie.Need-search-holds Inv-ls μ-ls Inv-cs μ-cs Inv-xs μ-xs Inv-ys μ-ys Inv-search μ-search
-search-holds c = let p = c .before .pre .1 in (p .0, p .1, p .2, p .3, record { not-yet = refl; same = λ s g h. ap (seek _ _) (enter s g _ _ _ _ _) })
-
-ys-holds : tie.Need-ys-holds Inv-ls μ-ls Inv-cs μ-cs Inv-xs μ-xs Inv-ys μ-ys Inv-search μ-search
-ys-holds c = let i = c .before .search .inv in (i .1, i .2, i .3, onward _ _ _ _ _ refl (i .4) (λ s g h. inR s g _ _ _ _ _ (rw (h .ranged .resno1) at (c .search-test .taken))))
-
-xs-holds : tie.Need-xs-holds Inv-ls μ-ls Inv-cs μ-cs Inv-xs μ-xs Inv-ys μ-ys Inv-search μ-search
-xs-holds c = let i = c .before .ys .inv in (i .1, i .2, onward _ _ _ _ _ refl (i .3) (λ s g h. inY s g _ _ _ _ _ (rw (h .ranged .ty1) at (c .ys-test .taken))))
-
-cs-holds : tie.Need-cs-holds Inv-ls μ-ls Inv-cs μ-cs Inv-xs μ-xs Inv-ys μ-ys Inv-search μ-search
-cs-holds c = let i = c .before .xs .inv in (i .1, onward _ _ _ _ _ refl (i .2) (λ s g h. inX s g _ _ _ _ _ (rw (h .ranged .tx1) at (c .xs-test .taken))))
-
-cell-at-requires :
-    tie.Need-cell-at-requires Inv-ls μ-ls Inv-cs μ-cs Inv-xs μ-xs Inv-ys μ-ys Inv-search μ-search
-cell-at-requires c κs = let p = c .before .before .before .before .before .before .before .before .before .pre .0 in (p .0, at-point (p .0) (p .1 .0) _ _ _ (p .1 .1) _ _ _ _ (stands c))
-
-enum-known-k :
-    tie.Need-enum-known-k Inv-ls μ-ls Inv-cs μ-cs Inv-xs μ-xs Inv-ys μ-ys Inv-search μ-search
-enum-known-k c = search needs
-
-ls-holds : tie.Need-ls-holds Inv-ls μ-ls Inv-cs μ-cs Inv-xs μ-xs Inv-ys μ-ys Inv-search μ-search
-ls-holds c = onward _ _ _ _ _ refl (c .before .before .before .before .before .cs .inv .1)
+-- what was to be searched at entry answers as the resolution at which the loop stands, or else as the later ones
+searched : (c : tie.After-pcrl Inv-search μ-search) (s : Sheet) (g : Range)
+    → (let a = c .before .before .before .before .before .args in Ready s g (now (a .prep)) (a .w) (now (a .marks))
+    → seek (indexOf (s .st)) (now (a .marks)) (entry (a .r-from) (a .y-from) (a .x-from) (a .c-from) (a .l-from) s g)
+    ≡ orElse (answerOf (c .pcrl .result)) (seek (indexOf (s .st)) (now (a .marks)) (onFrom (a .w) (c .before .before .before .search .r + 1) s g)))
+searched c =
+    let r = c .before .before .before .search .r in
+    let i = c .before .before .before .search .inv in
+    part-searched _ _ _ _ (λ s g. pcrl.entry _ _ _ _ _ s (alone g r)) (onFrom (c .before .before .before .before .before .args .w) (r + 1)) (c .pcrl .result) (i .4)
     (λ s g h.
-    let m = cell-met s _ _ _ _ _ (sym (cell-is (c .before .before .before) s g h) ∙ c .before .k .given .1) in
-    inC s g _ _ _ _ _ (rw (h .ranged .compno1) at (c .before .before .before .before .cs-test .taken)) ∙ meets s g _ _ _ _ _ _ _ (m .0) (m .1))
+    let t = c .before .before .search-test .taken in
+    (one-left s g _ _ _ h _ (i .0) t _ _ _ _, c .pcrl .ensures s (alone g _) (rw (c .before .part .ensures) (ready-alone s g _ _ _ h _ (i .0) t))))
 
-index-requires :
-    tie.Need-index-requires Inv-ls μ-ls Inv-cs μ-cs Inv-xs μ-xs Inv-ys μ-ys Inv-search μ-search
-index-requires c κs = let p = c .before .before .before .before .before .before .before .before .before .before .before .before .before .before .before .pre .0 in
-    let m = met-here c (p .0) (p .1 .0) (p .1 .1) in
-    mark-fits (p .0) (p .1 .0) _ _ _ (p .1 .1) _ _ _ _ _ _ (stands (c .before .before .before .before .before .before)) (c .ls-test .taken) (m .0) (m .1)
+search-holds : tie.Need-search-holds Inv-search μ-search
+search-holds c = let p = c .before .pre .1 in (p .0, p .1, p .2, p .3, λ s g h. refl)
 
-is-free-requires :
-    tie.Need-is-free-requires Inv-ls μ-ls Inv-cs μ-cs Inv-xs μ-xs Inv-ys μ-ys Inv-search μ-search
-is-free-requires c κs = let p = c .before .before .before .before .before .before .before .before .before .before .before .before .before .before .before .before .pre .0 in
-    let m = met-here (c .before) (p .0) (p .1 .0) (p .1 .1) in
-    rw (c .index .ensures) (mark-there (p .0) (p .1 .0) _ _ _ (p .1 .1) _ _ _ _ _ _ (stands (c .before .before .before .before .before .before .before)) (c .before .ls-test .taken) (m .0) (m .1))
+add-part : tie.Need-add-part Inv-search μ-search
+add-part c = search needs
 
-add-l : tie.Need-add-l Inv-ls μ-ls Inv-cs μ-cs Inv-xs μ-xs Inv-ys μ-ys Inv-search μ-search
-add-l c = search needs
+part-requires : tie.Need-part-requires Inv-search μ-search
+part-requires c κs = search needs
 
-ls-less : tie.Need-ls-less Inv-ls μ-ls Inv-cs μ-cs Inv-xs μ-xs Inv-ys μ-ys Inv-search μ-search
-ls-less c = search needs
+pcrl-requires : tie.Need-pcrl-requires Inv-search μ-search
+pcrl-requires c κs =
+    let p = c .before .before .before .before .pre .0 in
+    let i = c .before .before .search .inv in
+    rw (c .part .ensures) ((p .0, (alone (p .1 .0) _, ready-alone _ _ _ _ _ (p .1 .1) _ (i .0) (c .before .search-test .taken))), (i .1, i .2, i .3, omega arith))
 
-ls-again : tie.Need-ls-again Inv-ls μ-ls Inv-cs μ-cs Inv-xs μ-xs Inv-ys μ-ys Inv-search μ-search
-ls-again c = passed _ _ _ _ _ refl (c .before .before .before .before .ls .inv)
-    (λ s g h.
-    let m = met-here (c .before .before .before) s g h in
-    passL s g _ _ _ _ _ _ _ _ (rw (h .ranged .layno1) at (c .before .before .before .ls-test .taken))
-    (mark-read s g _ _ _ h _ _ _ _ _ _ (stands (c .before .before .before .before .before .before .before .before .before)) (c .before .before .before .ls-test .taken) (m .0) (m .1) _ _ _
-    (c .before .before .index .ensures) (c .before .is-free .ensures) (c .if1 .left)))
+enum-known-place : tie.Need-enum-known-place Inv-search μ-search
+enum-known-place c = search needs
 
-enum-told : tie.Need-enum-told Inv-ls μ-ls Inv-cs μ-cs Inv-xs μ-xs Inv-ys μ-ys Inv-search μ-search
+returns : tie.Need-returns Inv-search μ-search
+returns c s g h = let e = searched (c .before .before .before) s g h in sym (rw (c .before .place .given .1) at e)
+
+enum-told : tie.Need-enum-told Inv-search μ-search
 enum-told c = search needs
 
-add-c : tie.Need-add-c Inv-ls μ-ls Inv-cs μ-cs Inv-xs μ-xs Inv-ys μ-ys Inv-search μ-search
-add-c c = search needs
-
-cs-less : tie.Need-cs-less Inv-ls μ-ls Inv-cs μ-cs Inv-xs μ-xs Inv-ys μ-ys Inv-search μ-search
-cs-less c = search needs
-
-cs-again : tie.Need-cs-again Inv-ls μ-ls Inv-cs μ-cs Inv-xs μ-xs Inv-ys μ-ys Inv-search μ-search
-cs-again c = (
-  omega (arith, c .before .before .before .cs .inv .0),
-  ⊎-elim
-      (λ w. onward _ _ _ _ _ (w .5) (w .3 .inv) (λ s g h. outL s g _ _ _ _ _ _ _ (rw (h .ranged .layno1) at (w .4 .left)) ∙ onC s g _ _ _ _))
-      (λ w.
-      onward _ _ _ _ _ (w .2) (c .before .before .before .cs .inv .1)
-      (λ s g h.
-      inC s g _ _ _ _ _ (rw (h .ranged .compno1) at (c .before .before .cs-test .taken))
-      ∙ misses s g _ _ _ _ _ _ (cell-missed s _ _ _ _ (sym (cell-is (c .before) s g h) ∙ w .1 .given .1))
-      ∙ onC s g _ _ _ _))
-      (c .match .came),
-)
-
-add-next-column :
-    tie.Need-add-next-column Inv-ls μ-ls Inv-cs μ-cs Inv-xs μ-xs Inv-ys μ-ys Inv-search μ-search
-add-next-column c = search needs
-
-next-column-requires :
-    tie.Need-next-column-requires
-    Inv-ls
-    μ-ls
-    Inv-cs
-    μ-cs
-    Inv-xs
-    μ-xs
-    Inv-ys
-    μ-ys
-    Inv-search
-    μ-search
-next-column-requires c κs = let p = c .before .before .before .before .before .before .before .before .before .pre .0 in
-    (c .before .before .xs-test .taken, (p .0, in-play (p .0) (p .1 .0) _ _ _ (p .1 .1) _ _ _ _ (c .before .before .before .before .before .before .before .search .inv .0) (omega (arith, c .before .before .before .before .before .before .search-test .taken)) (omega arith) (omega arith)))
-
-xs-less : tie.Need-xs-less Inv-ls μ-ls Inv-cs μ-cs Inv-xs μ-xs Inv-ys μ-ys Inv-search μ-search
-xs-less c = omega (arith, column-up c, c .before .before .before .xs-test .taken)
-
-xs-again : tie.Need-xs-again Inv-ls μ-ls Inv-cs μ-cs Inv-xs μ-xs Inv-ys μ-ys Inv-search μ-search
-xs-again c = (
-  omega (arith, column-up c, c .before .before .before .before .xs .inv .0),
-  omega arith,
-  onward _ _ _ _ _ refl (c .before .before .cs .inv .1)
-      (λ s g h.
-      let q = h .ranged in
-      outC s g _ _ _ _ _ (rw (q .compno1) at (c .before .cs-test .left))
-      ∙ onX s g _ _ _ _ _
-      (rw (q .resno0) at (c .before .before .before .before .before .before .before .before .search .inv .0)) (rw (q .resno1) at (c .before .before .before .before .before .before .before .search-test .taken))
-      (rw (q .ty0) at (c .before .before .before .before .before .before .ys .inv .0)) (rw (q .ty1) at (c .before .before .before .before .before .ys-test .taken))
-      (rw (q .tx0) at (c .before .before .before .before .xs .inv .0)) (rw (q .tx1) at (c .before .before .before .xs-test .taken))
-      (column-here c s g h .0) (q .compno0)),
-)
-
-add-next-row :
-    tie.Need-add-next-row Inv-ls μ-ls Inv-cs μ-cs Inv-xs μ-xs Inv-ys μ-ys Inv-search μ-search
-add-next-row c = search needs
-
-next-row-requires :
-    tie.Need-next-row-requires Inv-ls μ-ls Inv-cs μ-cs Inv-xs μ-xs Inv-ys μ-ys Inv-search μ-search
-next-row-requires c κs = let p = c .before .before .before .before .before .before .before .pre .0 in
-    (c .before .before .ys-test .taken, (p .0, in-play (p .0) (p .1 .0) _ _ _ (p .1 .1) _ _ _ _ (c .before .before .before .before .before .search .inv .0) (omega (arith, c .before .before .before .before .search-test .taken)) (omega arith) (omega arith)))
-
-ys-less : tie.Need-ys-less Inv-ls μ-ls Inv-cs μ-cs Inv-xs μ-xs Inv-ys μ-ys Inv-search μ-search
-ys-less c = omega (arith, row-up c, c .before .before .before .ys-test .taken)
-
-ys-again : tie.Need-ys-again Inv-ls μ-ls Inv-cs μ-cs Inv-xs μ-xs Inv-ys μ-ys Inv-search μ-search
-ys-again c = (
-  omega (arith, row-up c, c .before .before .before .before .ys .inv .0),
-  omega arith,
-  omega arith,
-  onward _ _ _ _ _ refl (c .before .before .xs .inv .2)
-      (λ s g h.
-      let q = h .ranged in
-      outX s g _ _ _ _ _ (rw (q .tx1) at (c .before .xs-test .left))
-      ∙ onY s g _ _ _ _ _
-      (rw (q .resno0) at (c .before .before .before .before .before .before .search .inv .0)) (rw (q .resno1) at (c .before .before .before .before .before .search-test .taken))
-      (rw (q .ty0) at (c .before .before .before .before .ys .inv .0)) (rw (q .ty1) at (c .before .before .before .ys-test .taken))
-      (row-here c s g h .0) (q .tx0) (q .compno0)),
-)
-
-add-r : tie.Need-add-r Inv-ls μ-ls Inv-cs μ-cs Inv-xs μ-xs Inv-ys μ-ys Inv-search μ-search
+add-r : tie.Need-add-r Inv-search μ-search
 add-r c = search needs
 
-search-less :
-    tie.Need-search-less Inv-ls μ-ls Inv-cs μ-cs Inv-xs μ-xs Inv-ys μ-ys Inv-search μ-search
+search-less : tie.Need-search-less Inv-search μ-search
 search-less c = search needs
 
-search-again :
-    tie.Need-search-again Inv-ls μ-ls Inv-cs μ-cs Inv-xs μ-xs Inv-ys μ-ys Inv-search μ-search
-search-again c = (
-  omega (arith, c .before .before .before .search .inv .0),
-  omega arith,
-  omega arith,
-  omega arith,
-  onward _ _ _ _ _ refl (c .before .ys .inv .3)
-      (λ s g h.
-      let q = h .ranged in
-      outY s g _ _ _ _ _ (rw (q .ty1) at (c .ys-test .left)) ∙ onR s g _ _ _ _ (q .ty0) (q .tx0) (q .compno0)),
-)
+search-again : tie.Need-search-again Inv-search μ-search
+search-again c =
+    let i = c .before .before .before .before .before .search .inv in
+    (omega (arith, i .0), omega arith, omega arith, omega arith, λ s g h. let e = searched (c .before .before) s g h in rw (c .enum-told .given .1) at e)
 
--- where the loops are left: by the outermost test, or by the break
-left :
-    (c : tie.Left-search Inv-ls μ-ls Inv-cs μ-cs Inv-xs μ-xs Inv-ys μ-ys Inv-search μ-search)
-    → (let a = c .before .before .before .args in
-    Left (λ s g. Ready s g (a .prep .now) (a .w) (a .marks .now)) (a .marks .now)
-    (entry (a .r-from) (a .y-from) (a .x-from) (a .c-from) (a .l-from)) (c .search-test .found) (c .search-test .place))
-left c =
-    ⊎-elim
-    (λ w. left-out _ _ _ _ _ _ (w .4) (onward _ _ _ _ _ refl (c .before .search .inv .4) (λ s g h. outR s g _ _ _ _ _ (rw (h .ranged .resno1) at (w .0 .left)))))
-    (λ w.
-    let d : tie.In-ls Inv-ls μ-ls Inv-cs μ-cs Inv-xs μ-xs Inv-ys μ-ys Inv-search μ-search =
-    record { before = record { before = record { before = record { before = record { before = record { before = record { before = record { before = record { before = record { before = record { before = record { before = record { before = c .before; search-test = w .0 }; ys = w .1 }; ys-test = w .2 }; xs = w .3 }; xs-test = w .4 }; cs = w .5 }; cs-test = w .6 }; cell-at = w .7 }; match = w .8 }; k = w .9 }; known-told = w .10 }; ls = w .11 }; ls-test = w .12 } in
-    left-found _ _ _ _ _ _ (w .19) (w .20)
-    (λ s g h.
-    let m = met-here d s g h in
-    w .11 .inv .same s g h
-    ∙ foundL s g _ _ _ _ _ _ _ _ (rw (h .ranged .layno1) at (w .12 .taken))
-    (mark-read s g _ _ _ h _ _ _ _ _ _ (stands (d .before .before .before .before .before .before)) (w .12 .taken) (m .0) (m .1) _ _ _ (w .13 .ensures) (w .14 .ensures) (w .15 .taken))))
-    (c .search-test .came)
-
-returns : tie.Need-returns Inv-ls μ-ls Inv-cs μ-cs Inv-xs μ-xs Inv-ys μ-ys Inv-search μ-search
-returns c = λ s g h. sym (left (c .before) .hits (c .if2 .taken) s g h)
-
-returns-2 : tie.Need-returns-2 Inv-ls μ-ls Inv-cs μ-cs Inv-xs μ-xs Inv-ys μ-ys Inv-search μ-search
-returns-2 c = λ s g h. sym (left (c .before) .misses (c .if2 .left) s g h)
+returns-2 : tie.Need-returns-2 Inv-search μ-search
+unfolding seek
+returns-2 c s g h = sym (c .before .search .inv .4 s g h ∙ ap (seek _ _) (none-left s g _ _ _ h _ _ _ _ _ (c .search-test .left)))
 
 pub rpcl-spec : {M : Type 1} → statement M
 rpcl-spec =
     tie.close
     (tie.spec
-    Inv-ls
-    μ-ls
-    Inv-cs
-    μ-cs
-    Inv-xs
-    μ-xs
-    Inv-ys
-    μ-ys
     Inv-search
     μ-search
     search-holds
-    ys-holds
-    xs-holds
-    cs-holds
-    cell-at-requires
-    enum-known-k
-    ls-holds
-    index-requires
-    is-free-requires
-    add-l
-    ls-less
-    ls-again
+    add-part
+    part-requires
+    pcrl-requires
+    enum-known-place
+    returns
     enum-told
-    add-c
-    cs-less
-    cs-again
-    add-next-column
-    next-column-requires
-    xs-less
-    xs-again
-    add-next-row
-    next-row-requires
-    ys-less
-    ys-again
     add-r
     search-less
     search-again
-    returns
     returns-2)

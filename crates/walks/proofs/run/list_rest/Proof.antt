@@ -1,7 +1,8 @@
 -- `list_rest`: the numbers are prepared; then what is left to be listed leads to the end that was to be reached at entry (`KeptAll`). Assumes nothing.
-use mathlib.Core.Path.{refl}
+use mathlib.Core.Path.{_≡_, refl}
 use Prim.Native.Nat.{_-_}
 use native.Mathlib.Omega.{arith}
+use lib.ListN.{length}
 use denote.Ref.{now}
 use Rattle.walks.specs.FromSound.{AllFilled, sound-components, sound-filled}
 use Rattle.walks.specs.Stepping.{cleared}
@@ -11,11 +12,12 @@ use Rattle.walks.proofs.run.list_rest.Statement.{statement}
 use Rattle.walks.proofs.run.list_rest.Tie as tie
 
 abbrev Inv-runs : tie.InvT-runs
-Inv-runs st table counts marks₀ output₀ k-from n prep progressions count₀ k₀ marks output count k =
-    KeptAll st table marks₀ output₀ n k-from marks output count k
+Inv-runs st table counts marks₀ output₀ k-from n prep row₀ progressions count₀ k₀ marks output row count k =
+    (length row ≡ 528) × KeptAll st table marks₀ output₀ n k-from marks output count k
 
 abbrev μ-runs : tie.MeasureT-runs
-μ-runs st table counts marks₀ output₀ k-from n prep progressions count₀ k₀ marks output count k = progressions - k
+μ-runs st table counts marks₀ output₀ k-from n prep row₀ progressions count₀ k₀ marks output row count k =
+    progressions - k
 
 -- the numbers are prepared
 filled : (c : tie.After-prepare Inv-runs μ-runs) → AllFilled (c .before .before .before .before .before .before .before .before .before .before .before .args .st) (now (c .before .before .before .before .before .before .before .before .before .before .before .args .table)) (c .prepare .last .0)
@@ -27,39 +29,42 @@ prepare-requires : tie.Need-prepare-requires Inv-runs μ-runs
 prepare-requires c κs = (refl, (_, sound-components _ _ _ (c .before .before .before .before .before .before .before .before .before .before .pre .sound)))
 
 runs-holds : tie.Need-runs-holds Inv-runs μ-runs
-runs-holds c = all-first
+runs-holds c = (refl, all-first)
 
 plan-of-requires : tie.Need-plan-of-requires Inv-runs μ-runs
 plan-of-requires c κs = plan-asks _ _ _ (c .before .before .before .before .before .before .before .before .before .before .before .before .before .pre .sound) _ (c .runs-test .taken)
 
 list-progression-requires : tie.Need-list-progression-requires Inv-runs μ-runs
 list-progression-requires c κs =
-    let i = c .before .before .before .before .before .runs .inv in
-    let h = c .before .before .before .before .runs-test .taken in
-    let p = c .before .before .before .plan-of .ensures in
-    let d = c .before .before .before .before .before .before .before .before .before .before .before .before .before .before .before .before .before .pre in
-    (_, (_, (_, plans i h d p, filled (c .before .before .before .before .before .before), run-few i h d p)))
+    let i = c .before .before .before .before .before .before .runs .inv in
+    let h = c .before .before .before .before .before .runs-test .taken in
+    let p = c .before .before .before .before .plan-of .ensures in
+    let d = c .before .before .before .before .before .before .before .before .before .before .before .before .before .before .before .before .before .before .pre in
+    (i .0, (_, (_, (_, plans (i .1) h d p, filled (c .before .before .before .before .before .before .before), run-few (i .1) h d p))))
 
 add-k : tie.Need-add-k Inv-runs μ-runs
-add-k c = omega (arith, plan-asks _ _ _ (c .before .before .before .before .before .before .before .before .before .before .before .before .before .before .before .before .before .before .before .before .before .before .pre .sound) _ (c .before .before .before .before .before .before .before .before .before .runs-test .taken) .0)
+add-k c = omega (arith, plan-asks _ _ _ (c .before .before .before .before .before .before .before .before .before .before .before .before .before .before .before .before .before .before .before .before .before .before .before .pre .sound) _ (c .before .before .before .before .before .before .before .before .before .before .runs-test .taken) .0)
 
 runs-less : tie.Need-runs-less Inv-runs μ-runs
 runs-less c = search needs
 
 runs-again : tie.Need-runs-again Inv-runs μ-runs
 runs-again c =
-    let i = c .before .before .before .before .before .before .before .before .before .before .runs .inv in
-    let h = c .before .before .before .before .before .before .before .before .before .runs-test .taken in
-    all-next i h (c .before .before .before .marks .given) (c .before .output .given) (c .before .before .before .before .list-progression .ensures _ _ _ (plans i h (c .before .before .before .before .before .before .before .before .before .before .before .before .before .before .before .before .before .before .before .before .before .before .pre) (c .before .before .before .before .before .before .before .before .plan-of .ensures)) (filled (c .before .before .before .before .before .before .before .before .before .before .before)))
+    let i = c .before .before .before .before .before .before .before .before .before .before .before .runs .inv in
+    let h = c .before .before .before .before .before .before .before .before .before .before .runs-test .taken in
+    let f = c .before .before .before .before .list-progression .ensures in (
+      f .0,
+      all-next (i .1) h (c .before .before .before .marks .given) (c .before .output .given) (f .1 _ _ _ (plans (i .1) h (c .before .before .before .before .before .before .before .before .before .before .before .before .before .before .before .before .before .before .before .before .before .before .before .pre) (c .before .before .before .before .before .before .before .before .before .plan-of .ensures)) (filled (c .before .before .before .before .before .before .before .before .before .before .before .before))),
+    )
 
 same-length : tie.Need-same-length Inv-runs μ-runs
-same-length c = c .before .runs .inv .long
+same-length c = c .before .runs .inv .1 .long
 
 same-length-2 : tie.Need-same-length-2 Inv-runs μ-runs
-same-length-2 c = c .before .runs .inv .room
+same-length-2 c = c .before .runs .inv .1 .room
 
 returns : tie.Need-returns Inv-runs μ-runs
-returns c = all-ended (c .before .runs .inv) (c .runs-test .left)
+returns c = all-ended (c .before .runs .inv .1) (c .runs-test .left)
 
 pub list-rest-spec : {M : Type 1} → statement M
 list-rest-spec =
