@@ -1,63 +1,53 @@
--- The two innermost levels of a walk, the same for every order by points: the precinct that is met at a point, if one is, and its layers. `o` is what is left
--- behind them. Assumes nothing.
+-- A point of a tile: the precinct of one component and resolution that is met there, if one is, and its layers. Assumes nothing.
 use mathlib.Core.Path.{_≡_, refl, sym, ap, _∙_}
 use mathlib.Core.Bool.{true, false}
-use mathlib.Core.List.{List, [], _∷_, _++_}
+use mathlib.Core.List.{List, [], _∷_, _++_, append-nil}
 use Prim.Native.Nat.{ℕ, _+_, _≤_, _<_}
-use lib.ListN.{getD}
-use lib.Dec.{eqb}
+use native.Mathlib.Omega.{arith}
+use Rattle.laws.specs.Axis.{up-grows}
 use Rattle.laws.specs.Nest.{resumed}
-use Rattle.laws.specs.Runs.{Packet, seek}
-use Rattle.packets.specs.Tile.{Sheet, indexOf}
+use Rattle.laws.specs.NestMoved.{no-turn, one-and-later}
+use Rattle.packets.specs.Tile.{Sheet}
 use Rattle.packets.specs.Orders.{Range}
 use Rattle.packets.specs.Positions.{met, numberAt, layers, thePrecinct}
 use Rattle.packets.specs.declared.cursor.Position.{Position}
 use Rattle.walks.specs.Prepared.{pointOf}
 use Rattle.walks.specs.Going.{Rest}
-use Rattle.walks.specs.Innermost.{last-in}
-use Rattle.walks.specs.Turns.{met-in, met-out, layer-out, layer-found, layer-passed}
 
 -- layer l of precinct k
 abbrev pub packetOf : ℕ → ℕ → ℕ → ℕ → ℕ → ℕ → Position
 packetOf r c x y k l = record { layno = l; resno = r; compno = c; precno = k; x = x; y = y }
 
--- the layers from l on of the precinct that is met at a point
-unfoldable pub leftK : Rest → ℕ → ℕ → ℕ → ℕ → ℕ → Rest
-leftK o r c x y l s g = resumed (thePrecinct s ∷ layers g ∷ []) (numberAt s ∷ (λ p. l) ∷ []) (pointOf r c x y) ++ o s g
+-- its layers from l on
+unfoldable pub layersFrom : ℕ → ℕ → ℕ → ℕ → ℕ → ℕ → Rest
+layersFrom r c x y k l s g = resumed (layers g ∷ []) ((λ p. l) ∷ []) (packetOf r c x y k 0)
 
--- .. which is precinct k
-unfoldable pub leftL : Rest → ℕ → ℕ → ℕ → ℕ → ℕ → ℕ → Rest
-leftL o r c x y k l s g = resumed (layers g ∷ []) ((λ p. l) ∷ []) (packetOf r c x y k 0) ++ o s g
+-- those of the precinct that is met at a point
+unfoldable pub cellFrom : ℕ → ℕ → ℕ → ℕ → ℕ → Rest
+cellFrom r c x y l s g = resumed (thePrecinct s ∷ layers g ∷ []) (numberAt s ∷ (λ p. l) ∷ []) (pointOf r c x y)
 
-module _ (s : Sheet) (g : Range) (o : Rest) (r c x y : ℕ) where
-  -- a precinct is met, or none
-  pub meets : (k l : ℕ) → met s (pointOf r c x y) ≡ true → k ≡ numberAt s (pointOf r c x y) → leftK o r c x y l s g ≡ leftL o r c x y k l s g
-  unfolding leftK leftL
-  meets k l h e =
-      met-in s g (λ p. l) (pointOf r c x y) (o s g) h
-      ∙ ap (λ (n : ℕ). resumed (layers g ∷ []) ((λ p. l) ∷ []) (packetOf r c x y n 0) ++ o s g) (sym e)
-
-  pub misses : (l : ℕ) → met s (pointOf r c x y) ≡ false → leftK o r c x y l s g ≡ o s g
-  unfolding leftK
-  misses l h = met-out s g (λ p. l) (pointOf r c x y) (o s g) h
+module _ (s : Sheet) (g : Range) (r c x y : ℕ) where
+  -- no precinct is met
+  pub misses : (l : ℕ) → met s (pointOf r c x y) ≡ false → cellFrom r c x y l s g ≡ []
+  unfolding cellFrom
+  misses l h = no-turn (thePrecinct s) (layers g ∷ []) (numberAt s) ((λ p. l) ∷ []) (pointOf r c x y) (rw h (omega arith))
 
   module _ (k l : ℕ) where
-    pub outL : g .layno1 ≤ l → leftL o r c x y k l s g ≡ o s g
-    unfolding leftL
-    outL h = layer-out g (packetOf r c x y k 0) l (o s g) h
+    -- or precinct k, and no other
+    pub meets : met s (pointOf r c x y) ≡ true → k ≡ numberAt s (pointOf r c x y) → cellFrom r c x y l s g ≡ layersFrom r c x y k l s g
+    unfolding cellFrom layersFrom
+    meets h e =
+        let p = pointOf r c x y in
+        one-and-later (thePrecinct s) (layers g ∷ []) (numberAt s) ((λ q. l) ∷ []) p up-grows (rw h (omega arith)) (λ q. numberAt s q + 1) ((λ q. 0) ∷ []) refl (λ q. refl, tt)
+        ∙ ap (λ (t : List Position). resumed (layers g ∷ []) ((λ q. l) ∷ []) (thePrecinct s .put (numberAt s p) p) ++ t)
+        (no-turn (thePrecinct s) (layers g ∷ []) (λ q. numberAt s q + 1) ((λ q. 0) ∷ []) p (rw h (omega arith)))
+        ∙ append-nil (resumed (layers g ∷ []) ((λ q. l) ∷ []) (thePrecinct s .put (numberAt s p) p))
+        ∙ ap (λ (n : ℕ). resumed (layers g ∷ []) ((λ q. l) ∷ []) (packetOf r c x y n 0)) (sym e)
 
-    pub inL : l < g .layno1 → leftL o r c x y k l s g ≡ packetOf r c x y k l ∷ leftL o r c x y k (l + 1) s g
-    unfolding leftL
-    inL h = last-in (layers g) (packetOf r c x y k 0) l (o s g) refl h
+    pub outL : g .layno1 ≤ l → layersFrom r c x y k l s g ≡ []
+    unfolding layersFrom
+    outL h = no-turn (layers g) [] (λ p. l) [] (packetOf r c x y k 0) h
 
-    -- a layer is free, or not
-    module _ (marks : List ℕ) (h : l < g .layno1) where
-      pub foundL : eqb (getD marks (indexOf (s .st) (packetOf r c x y k l)) 0) 0 ≡ true
-          → seek (indexOf (s .st)) marks (leftL o r c x y k l s g) ≡ Packet (packetOf r c x y k l)
-      unfolding leftL
-      foundL e = layer-found g (packetOf r c x y k 0) l (o s g) (s .st) marks h e
-
-      pub passL : eqb (getD marks (indexOf (s .st) (packetOf r c x y k l)) 0) 0 ≡ false
-          → seek (indexOf (s .st)) marks (leftL o r c x y k l s g) ≡ seek (indexOf (s .st)) marks (leftL o r c x y k (l + 1) s g)
-      unfolding leftL
-      passL e = layer-passed g (packetOf r c x y k 0) l (o s g) (s .st) marks h e
+    pub inL : l < g .layno1 → layersFrom r c x y k l s g ≡ packetOf r c x y k l ∷ layersFrom r c x y k (l + 1) s g
+    unfolding layersFrom resumed
+    inL h = one-and-later (layers g) [] (λ p. l) [] (packetOf r c x y k 0) up-grows h (λ p. l + 1) [] refl tt

@@ -1,15 +1,14 @@
--- What LRCP and RLCP have in common: inside a layer and a resolution both go over the components and the precincts of each, by their count.
--- `o` is what the two outer loops have left. Assumes nothing.
-use mathlib.Core.Path.{_≡_, refl, _∙_}
-use mathlib.Core.Bool.{Bool, true, false}
+-- What LRCP and RLCP have in common: inside a layer and a resolution both go over the components and the precincts of each, by their count. Assumes nothing.
+use mathlib.Core.Path.{_≡_, refl, ap, _∙_}
+use mathlib.Core.Bool.{Bool}
 use mathlib.Core.List.{List, [], _∷_, _++_}
 use Prim.Native.Nat.{ℕ, _+_, _≤_, _<_}
 use native.Mathlib.Omega.{arith}
 use lib.ListN.{length, getD}
 use lib.Dec.{eqb}
 use Rattle.laws.specs.Axis.{up-grows}
-use Rattle.laws.specs.Nest.{Loop, resumed, later, turn-in, turn-out, turn-next}
-use Rattle.laws.specs.Runs.{Packet, seek}
+use Rattle.laws.specs.Nest.{Loop, resumed}
+use Rattle.laws.specs.NestMoved.{no-turn, one-and-later}
 use Rattle.packets.specs.Tile.{Sheet, precincts, indexOf}
 use Rattle.packets.specs.Orders.{Range}
 use Rattle.packets.specs.Positions.{components, everyPrecinct}
@@ -19,7 +18,6 @@ use Rattle.packets.specs.declared.cursor.Position.{Position}
 use Rattle.walks.specs.Prepared.{countIn}
 use Rattle.walks.specs.Walk.{indexBy, Counted}
 use Rattle.walks.specs.Going.{Rest}
-use Rattle.walks.specs.Innermost.{last-in, last-out, last-found, last-passed}
 use Rattle.walks.specs.Marks.{same-mark, fits-mark, has-mark, reads-mark}
 use Rattle.walks.specs.declared.walk.Walk.{Walk}
 
@@ -31,55 +29,41 @@ inner s g = components g ∷ everyPrecinct s ∷ []
 abbrev pub placeOf : ℕ → ℕ → ℕ → ℕ → Position
 placeOf l r c k = record { layno = l; resno = r; compno = c; precno = k; x = 0; y = 0 }
 
--- what is left behind a turn of the components
-unfoldable pub afterC : Rest → ℕ → ℕ → ℕ → Rest
-afterC o l r c s g = later (components g) (everyPrecinct s ∷ []) (placeOf l r 0 0) c ++ o s g
+-- resolution r in layer l, from precinct k of component c on
+abbrev pub level : ℕ → ℕ → ℕ → ℕ → Rest
+level l r c k s g = resumed (inner s g) ((λ p. c) ∷ (λ p. k) ∷ []) (placeOf l r 0 0)
 
--- what is left at the components, and at the precincts of component c
-unfoldable pub leftC : Rest → ℕ → ℕ → ℕ → ℕ → Rest
-leftC o l r c k s g = resumed (inner s g) ((λ p. c) ∷ (λ p. k) ∷ []) (placeOf l r 0 0) ++ o s g
+-- .. written as that component, and then the next ones
+unfoldable pub leftK : ℕ → ℕ → ℕ → ℕ → Rest
+leftK l r c k s g = resumed (everyPrecinct s ∷ []) ((λ p. k) ∷ []) (placeOf l r c 0) ++ level l r (c + 1) 0 s g
 
-unfoldable pub leftK : Rest → ℕ → ℕ → ℕ → ℕ → Rest
-leftK o l r c k s g = resumed (everyPrecinct s ∷ []) ((λ p. k) ∷ []) (placeOf l r c 0) ++ afterC o l r c s g
+module _ (s : Sheet) (g : Range) (l r c k : ℕ) where
+  pub inC : c < g .compno1 → level l r c k s g ≡ leftK l r c k s g
+  unfolding leftK
+  inC h = one-and-later (components g) (everyPrecinct s ∷ []) (λ p. c) _ (placeOf l r 0 0) up-grows h (λ p. c + 1) _ refl (λ p. refl, tt)
 
-module _ (s : Sheet) (g : Range) (o : Rest) (l r c : ℕ) where
-  -- the next component starts with its first precinct
-  pub onC : afterC o l r c s g ≡ leftC o l r (c + 1) 0 s g
-  unfolding afterC leftC
-  onC = turn-next (components g) (everyPrecinct s ∷ []) (λ p. c + 1) ((λ p. 0) ∷ []) (placeOf l r 0 0) (o s g) (λ p. refl, tt) c refl
+  pub outC : g .compno1 ≤ c → level l r c k s g ≡ []
+  outC h = no-turn (components g) (everyPrecinct s ∷ []) (λ p. c) _ (placeOf l r 0 0) h
 
-  module _ (k : ℕ) where
-    pub inC : c < g .compno1 → leftC o l r c k s g ≡ leftK o l r c k s g
-    unfolding leftC leftK afterC
-    inC h = turn-in (components g) (everyPrecinct s ∷ []) (λ p. c) _ (placeOf l r 0 0) (o s g) up-grows h
+  pub outK : precincts s c r ≤ k → leftK l r c k s g ≡ level l r (c + 1) 0 s g
+  unfolding leftK
+  outK h = ap (λ (t : List Position). t ++ level l r (c + 1) 0 s g) (no-turn (everyPrecinct s) [] (λ p. k) [] (placeOf l r c 0) h)
 
-    pub outC : g .compno1 ≤ c → leftC o l r c k s g ≡ o s g
-    unfolding leftC
-    outC h = turn-out (components g) (everyPrecinct s ∷ []) (λ p. c) _ (placeOf l r 0 0) (o s g) h
+  pub inK : k < precincts s c r → leftK l r c k s g ≡ placeOf l r c k ∷ leftK l r c (k + 1) s g
+  unfolding leftK resumed
+  inK h =
+      ap (λ (t : List Position). t ++ level l r (c + 1) 0 s g)
+      (one-and-later (everyPrecinct s) [] (λ p. k) [] (placeOf l r c 0) up-grows h (λ p. k + 1) [] refl tt)
 
-    pub outK : precincts s c r ≤ k → leftK o l r c k s g ≡ afterC o l r c s g
-    unfolding leftK
-    outK h = last-out (everyPrecinct s) (placeOf l r c 0) k (afterC o l r c s g) h
-
-    pub inK : k < precincts s c r → leftK o l r c k s g ≡ placeOf l r c k ∷ leftK o l r c (k + 1) s g
-    unfolding leftK
-    inK h = last-in (everyPrecinct s) (placeOf l r c 0) k (afterC o l r c s g) refl h
-
-    module _ (marks : List ℕ) (h : k < precincts s c r) where
-      pub foundK : eqb (getD marks (indexOf (s .st) (placeOf l r c k)) 0) 0 ≡ true → seek (indexOf (s .st)) marks (leftK o l r c k s g) ≡ Packet (placeOf l r c k)
-      unfolding leftK
-      foundK e = last-found (everyPrecinct s) (placeOf l r c 0) k (afterC o l r c s g) refl h (s .st) marks e
-
-      pub passK : eqb (getD marks (indexOf (s .st) (placeOf l r c k)) 0) 0 ≡ false
-          → seek (indexOf (s .st)) marks (leftK o l r c k s g) ≡ seek (indexOf (s .st)) marks (leftK o l r c (k + 1) s g)
-      unfolding leftK
-      passK e = last-passed (everyPrecinct s) (placeOf l r c 0) k (afterC o l r c s g) refl h (s .st) marks e
-
--- A WALK THAT IS COUNTED stands at a layer, a resolution and a component inside its ranges
-pub record Stands (w : Walk) (l r c : ℕ) : Type 0 where
+-- a layer and a resolution of a walk
+pub record InLevel (w : Walk) (l r : ℕ) : Type 0 where
   pub layer : l < w .layno1
   pub res-from : w .resno0 ≤ r
   pub res-to : r < w .resno1
+
+-- A WALK THAT IS COUNTED stands at a layer, a resolution and a component inside its ranges
+pub record Stands (w : Walk) (l r c : ℕ) : Type 0 where
+  pub level : InLevel w l r
   pub comp-from : w .compno0 ≤ c
   pub comp-to : c < w .compno1
 
@@ -88,13 +72,13 @@ module _ (s : Sheet) (g : Range) (counts : List ℕ) (w : Walk) (marks : List �
   pub held : (r < 33) × (c < 16)
   held =
       let q = counted .ranged in
-      (omega (arith, counted .resolutions, q .resno1, t .res-to), omega (arith, counted .components, q .compno1, t .comp-to))
+      (omega (arith, counted .resolutions, q .resno1, t .level .res-to), omega (arith, counted .components, q .compno1, t .comp-to))
 
   module _ (n : ℕ) (e : n ≡ countIn counts r c) where
     pub count-is : n ≡ precincts s c r
     count-is =
         let q = counted .ranged in
-        e ∙ counted .number r c (rw (← (q .resno0)) (t .res-from)) (rw (← (q .resno1)) (t .res-to)) (rw (← (q .compno0)) (t .comp-from)) (rw (← (q .compno1)) (t .comp-to))
+        e ∙ counted .number r c (rw (← (q .resno0)) (t .level .res-from)) (rw (← (q .resno1)) (t .level .res-to)) (rw (← (q .compno0)) (t .comp-from)) (rw (← (q .compno1)) (t .comp-to))
 
     -- one of so many precincts: its mark is below the largest number of marks, and below the marks' number; and what reading it says
     module _ (k : ℕ) (h : k < n) where
@@ -107,13 +91,13 @@ module _ (s : Sheet) (g : Range) (counts : List ℕ) (w : Walk) (marks : List �
           record { component = omega (arith, q .components, q .compno1, t .comp-to); resolution = precincts-in s c r (omega (arith, below)); precinct = below }
 
       pub mark-fits : indexBy w l r c k < 65536
-      mark-fits = fits-mark s g w marks (counted .ranged) (counted .good) (placeOf l r c k) inside (t .layer)
+      mark-fits = fits-mark s g w marks (counted .ranged) (counted .good) (placeOf l r c k) inside (t .level .layer)
 
       pub mark-there : indexBy w l r c k < length marks
-      mark-there = has-mark s g w marks (counted .ranged) (counted .good) (placeOf l r c k) inside (t .layer)
+      mark-there = has-mark s g w marks (counted .ranged) (counted .good) (placeOf l r c k) inside (t .level .layer)
 
       pub mark-is : indexBy w l r c k ≡ indexOf (s .st) (placeOf l r c k)
-      mark-is = same-mark s g w marks (counted .ranged) (counted .good) (placeOf l r c k) inside (t .layer)
+      mark-is = same-mark s g w marks (counted .ranged) (counted .good) (placeOf l r c k) inside (t .level .layer)
 
       pub mark-read : (i : ℕ) (f t : Bool) → i ≡ indexBy w l r c k → f ≡ eqb (getD marks i 0) 0 → f ≡ t → eqb (getD marks (indexOf (s .st) (placeOf l r c k)) 0) 0 ≡ t
-      mark-read = reads-mark s g w marks (counted .ranged) (counted .good) (placeOf l r c k) inside (t .layer)
+      mark-read = reads-mark s g w marks (counted .ranged) (counted .good) (placeOf l r c k) inside (t .level .layer)

@@ -1,9 +1,10 @@
--- The layers of a precinct that is met at a point, listed one after the other. Assumes nothing.
+-- What is asked for where the layers of a precinct, a cell and a point are gone through. Assumes nothing.
 use mathlib.Core.Path.{_≡_, sym, _∙_}
-use mathlib.Core.List.{List}
+use mathlib.Core.Bool.{Bool}
+use mathlib.Core.List.{List, []}
 use Prim.Native.Nat.{ℕ, _+_, _*_, _≤_, _<_}
 use lib.ListN.{length, getD}
-use Rattle.laws.specs.Runs.{unlisted}
+use lib.Dec.{eqb}
 use Rattle.packets.specs.Tile.{Sheet, indexOf}
 use Rattle.packets.specs.Orders.{Range}
 use Rattle.packets.specs.Good.{Good}
@@ -14,9 +15,8 @@ use Rattle.walks.specs.Turns.{Stands, at-point, met-inside, cell-met, ce
 use Rattle.walks.specs.declared.cell.Cell.{Cell}
 use Rattle.walks.specs.declared.cell.Cell.the-variants.{At, Nothing}
 use Rattle.walks.specs.Walk.{Ranged, Ready, ready-long}
-use Rattle.walks.specs.Marks.{markBy, same-mark, fits-mark, has-mark}
-use Rattle.walks.specs.Going.{Rest}
-use Rattle.walks.specs.AtPoint.{packetOf, leftK, leftL, meets, misses}
+use Rattle.walks.specs.Marks.{markBy, same-mark, fits-mark, has-mark, reads-mark}
+use Rattle.walks.specs.AtPoint.{packetOf, layersFrom, cellFrom, meets, misses}
 use Rattle.walks.specs.declared.walk.Walk.{Walk}
 
 -- precinct k of component c at resolution r is one of the sheet's
@@ -25,10 +25,8 @@ pub record Layered (s : Sheet) (g : Range) (w : Walk) (marks : List ℕ) (r c x 
   pub good : Good s
   pub inside : Inside s (packetOf r c x y k 0)
 
--- .. of some sheet, and its packets are few, whatever comes behind them
-abbrev pub SomeLayers : Walk → List ℕ → ℕ → ℕ → ℕ → ℕ → ℕ → ℕ → Type 0
-SomeLayers w marks r c x y k n =
-    (s : Sheet) × ((g : Range) × ((o : Rest) × Layered s g w marks r c x y k × (n + length (unlisted (indexOf (s .st)) marks (leftL o r c x y k 0 s g)) ≤ 65536)))
+abbrev pub SomeLayers : Walk → List ℕ → ℕ → ℕ → ℕ → ℕ → ℕ → Type 0
+SomeLayers w marks r c x y k = (s : Sheet) × ((g : Range) × Layered s g w marks r c x y k)
 
 -- the mark of one of its layers
 module _ (s : Sheet) (g : Range) (w : Walk) (marks : List ℕ) (r c x y k : ℕ) (d : Layered s g w marks r c x y k) (l : ℕ) (h : l < w .layno1) where
@@ -44,45 +42,39 @@ module _ (s : Sheet) (g : Range) (w : Walk) (marks : List ℕ) (r c x y k : ℕ)
   pub layer-there : markBy w (packetOf r c x y k l) < length marks
   layer-there = has-mark s g w marks (d .ranged) (d .good) (packetOf r c x y k l) inside h
 
--- a walk that is ready stands at a point, in a row that is noted
+  pub layer-read : (i : ℕ) (f t : Bool) → i ≡ markBy w (packetOf r c x y k l) → f ≡ eqb (getD marks i 0) 0 → f ≡ t
+      → eqb (getD marks (indexOf (s .st) (packetOf r c x y k l)) 0) 0 ≡ t
+  layer-read = reads-mark s g w marks (d .ranged) (d .good) (packetOf r c x y k l) inside h
+
+-- a walk that is ready stands at a point: a precinct is met, and it is one of the sheet's; or none is
+module _
+    (s : Sheet) (g : Range) (prep : List ℕ) (w : Walk) (marks : List ℕ) (h : Ready s g prep w marks) (r c x y : ℕ) (t : Stands w r c x y) (cell : Cell)
+    (e : cell ≡ cellOf s r c x y)
+  where
+    pub cell-layered : (k : ℕ) → cell ≡ At k → Layered s g w marks r c x y k
+    cell-layered k f =
+        let m = cell-met s r c x y k (sym e ∙ f) in
+        record { ranged = h .ranged; good = h .play .good; inside = met-inside s g prep w marks h 0 r c k x y t (m .0) (m .1) }
+
+    pub cell-left : (k l : ℕ) → cell ≡ At k → cellFrom r c x y l s g ≡ layersFrom r c x y k l s g
+    cell-left k l f = let m = cell-met s r c x y k (sym e ∙ f) in meets s g r c x y k l (m .0) (m .1)
+
+    pub cell-passed : (l : ℕ) → cell ≡ Nothing → cellFrom r c x y l s g ≡ []
+    cell-passed l f = misses s g r c x y l (cell-missed s r c x y (sym e ∙ f))
+
+-- .. in a row that is noted
 pub record Celled (s : Sheet) (g : Range) (prep row : List ℕ) (w : Walk) (marks : List ℕ) (r c x y : ℕ) : Type 0 where
   pub ready : Ready s g prep w marks
   pub stands : Stands w r c x y
   pub noted : getD row (16 * r + c) 0 ≡ rowOf s r c y
 
-abbrev pub SomeCell : List ℕ → List ℕ → Walk → List ℕ → ℕ → ℕ → ℕ → ℕ → ℕ → Type 0
-SomeCell prep row w marks r c x y n =
-    (s : Sheet) × ((g : Range) × ((o : Rest) × Celled s g prep row w marks r c x y × (n + length (unlisted (indexOf (s .st)) marks (leftK o r c x y 0 s g)) ≤ 65536)))
-
-module _ (s : Sheet) (g : Range) (prep row : List ℕ) (w : Walk) (marks : List ℕ) (r c x y : ℕ) (d : Celled s g prep row w marks r c x y) where
-  pub row-point : RowPoint s prep row r c x y
-  row-point = record { point = at-point s g prep w marks (d .ready) r c x y (d .stands); noted = d .noted }
-
-  -- a precinct is met, and it is one of the sheet's; or none is
-  module _ (cell : Cell) (e : cell ≡ cellOf s r c x y) where
-    pub cell-layered : (k : ℕ) → cell ≡ At k → Layered s g w marks r c x y k
-    cell-layered k f =
-        let m = cell-met s r c x y k (sym e ∙ f) in
-        record {
-          ranged = d .ready .ranged;
-          good = d .ready .play .good;
-          inside = met-inside s g prep w marks (d .ready) 0 r c k x y (d .stands) (m .0) (m .1);
-        }
-
-    pub cell-left : (k : ℕ) → cell ≡ At k → (o : Rest) → leftK o r c x y 0 s g ≡ leftL o r c x y k 0 s g
-    cell-left k f o = let m = cell-met s r c x y k (sym e ∙ f) in meets s g o r c x y k 0 (m .0) (m .1)
-
-    pub cell-passed : cell ≡ Nothing → (o : Rest) → leftK o r c x y 0 s g ≡ o s g
-    cell-passed f o = misses s g o r c x y 0 (cell-missed s r c x y (sym e ∙ f))
+pub row-point : (s : Sheet) (g : Range) (prep row : List ℕ) (w : Walk) (marks : List ℕ) (r c x y : ℕ) → Celled s g prep row w marks r c x y → RowPoint s prep row r c x y
+row-point s g prep row w marks r c x y d = record { point = at-point s g prep w marks (d .ready) r c x y (d .stands); noted = d .noted }
 
 -- .. and so do all components and resolutions in range
 pub record Pointed (s : Sheet) (g : Range) (prep row : List ℕ) (w : Walk) (marks : List ℕ) (x y : ℕ) : Type 0 where
   pub ready : Ready s g prep w marks
   pub point : PointPlay s prep row (w .resno0) (w .resno1) (w .compno0) (w .compno1) x y
-
-abbrev pub SomePointed : List ℕ → List ℕ → Walk → List ℕ → ℕ → ℕ → ℕ → Rest → Type 0
-SomePointed prep row w marks x y n rest =
-    (s : Sheet) × ((g : Range) × Pointed s g prep row w marks x y × (n + length (unlisted (indexOf (s .st)) marks (rest s g)) ≤ 65536))
 
 module _ (s : Sheet) (g : Range) (prep row : List ℕ) (w : Walk) (marks : List ℕ) (x y : ℕ) (d : Pointed s g prep row w marks x y) where
   -- as many other marks do as well
@@ -96,6 +88,6 @@ module _ (s : Sheet) (g : Range) (prep row : List ℕ) (w : Walk) (marks : List 
       let p = d .point in
       record {
         ready = d .ready;
-        stands = record { res-from = a; res-to = b; comp-from = i; comp-to = j; left = rw (q .tx0) (p .left); right = rw (q .tx1) (p .right); top = rw (q .ty0) (p .at .top); bottom = rw (q .ty1) (p .at .bottom) };
+        stands = record { tile = record { left = rw (q .tx0) (p .left); right = rw (q .tx1) (p .right); top = rw (q .ty0) (p .at .top); bottom = rw (q .ty1) (p .at .bottom) }; res-from = a; res-to = b; comp-from = i; comp-to = j };
         noted = p .noted r c a b i j;
       }

@@ -8,7 +8,6 @@ pub mod Counting
 pub mod InRow
 pub mod Nexts
 pub mod Walk
-pub mod Innermost
 pub mod Marks
 pub mod Turns
 pub mod RowLaws

@@ -1,71 +1,54 @@
--- LRCP: what is left to be searched at its two outer loops, and the laws of a turn at each; the inner two are in Counts. Assumes nothing.
-use mathlib.Core.Path.{_≡_, refl, sym}
-use mathlib.Core.List.{List, [], _∷_, _++_, append-nil}
+-- LRCP: what is left of it from a place on is one resolution of one layer, and then the later ones. Assumes nothing.
+use mathlib.Core.Path.{_≡_, refl, ap, _∙_}
+use mathlib.Core.List.{List, [], _∷_, _++_, append-assoc}
 use Prim.Native.Nat.{ℕ, _+_, _≤_, _<_}
 use Rattle.laws.specs.Axis.{up-grows}
-use Rattle.laws.specs.Nest.{Loop, resumed, later, turn-in, turn-out, turn-next}
+use Rattle.laws.specs.Nest.{resumed}
+use Rattle.laws.specs.NestMoved.{no-turn, one-and-later}
 use Rattle.packets.specs.State.{origin}
 use Rattle.packets.specs.Tile.{Sheet}
 use Rattle.packets.specs.Orders.{Range, lrcp}
 use Rattle.packets.specs.Positions.{loopsOf, layers, resolutions}
 use Rattle.packets.specs.declared.cursor.Position.{Position}
+use Rattle.walks.specs.Walk.{Counted}
 use Rattle.walks.specs.Going.{Rest}
+use Rattle.walks.specs.Counts.{inner, placeOf, level}
 use Rattle.walks.specs.declared.walk.Walk.{Walk}
-use Rattle.walks.specs.Counts.{inner, placeOf, leftC}
-
--- the loops inside layers
-abbrev insideL : Sheet → Range → List (Loop Position)
-insideL s g = resolutions g ∷ inner s g
 
 -- what is to be searched from a place on
 abbrev pub entry : ℕ → ℕ → ℕ → ℕ → Rest
 entry l r c k s g = resumed (loopsOf s g lrcp) ((λ p. l) ∷ (λ p. r) ∷ (λ p. c) ∷ (λ p. k) ∷ []) origin
 
--- all of it
+-- the layers from l on, and all of them
+abbrev pub onFrom : Walk → ℕ → Rest
+onFrom w l = entry l (w .resno0) (w .compno0) 0
+
 abbrev pub wholly : Walk → Rest
-wholly w = entry 0 (w .resno0) (w .compno0) 0
+wholly w = onFrom w 0
 
--- what is left behind a turn of each loop
-unfoldable pub afterL : ℕ → Rest
-afterL l s g = later (layers g) (insideL s g) origin l ++ []
+-- what is left at the resolutions of layer l
+unfoldable pub leftR : Walk → ℕ → ℕ → ℕ → ℕ → Rest
+leftR w l r c k s g = resumed (resolutions g ∷ inner s g) ((λ p. r) ∷ (λ p. c) ∷ (λ p. k) ∷ []) (placeOf l 0 0 0) ++ onFrom w (l + 1) s g
 
-unfoldable pub afterR : ℕ → ℕ → Rest
-afterR l r s g = later (resolutions g) (inner s g) (placeOf l 0 0 0) r ++ afterL l s g
+module _ (s : Sheet) (g : Range) (counts : List ℕ) (w : Walk) (marks : List ℕ) (h : Counted s g counts w marks) (l r c k : ℕ) where
+  pub outL : w .layno1 ≤ l → entry l r c k s g ≡ []
+  outL e = no-turn (layers g) _ (λ p. l) _ origin (rw (← (h .ranged .layno1)) e)
 
--- what is left at each loop
-unfoldable pub leftL : ℕ → ℕ → ℕ → ℕ → Rest
-leftL l r c k s g = entry l r c k s g ++ []
-
-unfoldable pub leftR : ℕ → ℕ → ℕ → ℕ → Rest
-leftR l r c k s g = resumed (insideL s g) ((λ p. r) ∷ (λ p. c) ∷ (λ p. k) ∷ []) (placeOf l 0 0 0) ++ afterL l s g
-
-module _ (s : Sheet) (g : Range) (l r c k : ℕ) where
-  pub enter : entry l r c k s g ≡ leftL l r c k s g
-  unfolding leftL
-  enter = sym (append-nil _)
-
-  pub inL : l < g .layno1 → leftL l r c k s g ≡ leftR l r c k s g
-  unfolding leftL leftR afterL
-  inL h = turn-in (layers g) (insideL s g) (λ p. l) _ origin [] up-grows h
-
-  pub outL : g .layno1 ≤ l → leftL l r c k s g ≡ []
-  unfolding leftL
-  outL h = turn-out (layers g) (insideL s g) (λ p. l) _ origin [] h
-
-  pub inR : r < g .resno1 → leftR l r c k s g ≡ leftC (afterR l r) l r c k s g
-  unfolding leftR leftC afterR
-  inR h = turn-in (resolutions g) (inner s g) (λ p. r) _ (placeOf l 0 0 0) (afterL l s g) up-grows h
-
-  pub outR : g .resno1 ≤ r → leftR l r c k s g ≡ afterL l s g
+  pub inL : l < w .layno1 → entry l r c k s g ≡ leftR w l r c k s g
   unfolding leftR
-  outR h = turn-out (resolutions g) (inner s g) (λ p. r) _ (placeOf l 0 0 0) (afterL l s g) h
+  inL e =
+      let q = h .ranged in
+      one-and-later (layers g) (resolutions g ∷ inner s g) (λ p. l) _ origin up-grows (rw (← (q .layno1)) e) (λ p. l + 1) _ refl (λ p. q .resno0, (λ p. q .compno0, (λ p. refl, tt)))
 
--- the next turn starts afresh: inner loops start where the range does
-module _ (s : Sheet) (g : Range) (l c0 : ℕ) (e : c0 ≡ g .compno0) where
-  pub onR : (r : ℕ) → afterR l r s g ≡ leftR l (r + 1) c0 0 s g
-  unfolding afterR leftR
-  onR r = turn-next (resolutions g) (inner s g) (λ p. r + 1) ((λ p. c0) ∷ (λ p. 0) ∷ []) (placeOf l 0 0 0) (afterL l s g) (λ p. e, (λ p. refl, tt)) r refl
+  pub outR : w .resno1 ≤ r → leftR w l r c k s g ≡ onFrom w (l + 1) s g
+  unfolding leftR
+  outR e =
+      ap (λ (t : List Position). t ++ onFrom w (l + 1) s g) (no-turn (resolutions g) (inner s g) (λ p. r) _ (placeOf l 0 0 0) (rw (← (h .ranged .resno1)) e))
 
-  pub onL : (r0 : ℕ) → r0 ≡ g .resno0 → afterL l s g ≡ leftL (l + 1) r0 c0 0 s g
-  unfolding afterL leftL
-  onL r0 f = turn-next (layers g) (insideL s g) (λ p. l + 1) ((λ p. r0) ∷ (λ p. c0) ∷ (λ p. 0) ∷ []) origin [] (λ p. f, (λ p. e, (λ p. refl, tt))) l refl
+  pub inR : r < w .resno1 → leftR w l r c k s g ≡ level l r c k s g ++ leftR w l (r + 1) (w .compno0) 0 s g
+  unfolding leftR
+  inR e =
+      let q = h .ranged in
+      ap (λ (t : List Position). t ++ onFrom w (l + 1) s g)
+      (one-and-later (resolutions g) (inner s g) (λ p. r) _ (placeOf l 0 0 0) up-grows (rw (← (q .resno1)) e) (λ p. r + 1) _ refl (λ p. q .compno0, (λ p. refl, tt)))
+      ∙ append-assoc (level l r c k s g) _ _

@@ -2,6 +2,7 @@
 mod cell;
 mod count;
 mod cprl;
+mod level;
 mod list;
 mod list_cprl;
 mod list_lrcp;

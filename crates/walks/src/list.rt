@@ -9,13 +9,14 @@ use words::put_four;
 ghost use mathlib.Core.Path.{_≡_};
 ghost use Prim.Native.Nat.{_*_, _<_, _≤_};
 ghost use lib.ListN.{length};
+ghost use Rattle.packets.specs.Tile.{Sheet, indexOf};
+ghost use Rattle.packets.specs.Orders.{Range};
 ghost use Rattle.walks.specs.Marks.{markBy};
 ghost use Rattle.walks.specs.Records.{putPacket};
-ghost use Rattle.walks.specs.Running.{Total};
-ghost use Rattle.walks.specs.Going.{Rest};
-ghost use Rattle.walks.specs.AtPoint.{leftK, leftL};
-ghost use Rattle.walks.specs.Listing.{listedOne, Listing};
-ghost use Rattle.walks.specs.Layers.{Layered, SomeLayers, Celled, SomeCell};
+ghost use Rattle.walks.specs.Running.{Total, totalOf};
+ghost use Rattle.walks.specs.AtPoint.{layersFrom, cellFrom};
+ghost use Rattle.walks.specs.Listing.{listedOne, SomeListing};
+ghost use Rattle.walks.specs.Layers.{Layered, Celled};
 
 // The record of a packet, as record n of the output; where there is no room for all of it, nothing.
 fn put_packet(output: &mut [u8], n: u32, p: Position)
@@ -58,8 +59,8 @@ pub(crate) fn list_layers(
     k: u32,
     n: u32,
 ) -> u32
-    requires { ⌜ SomeLayers w (now marks) r c x y k n ⌝ }
-    ensures { λ m. ⌜ ((o : Rest) → Listing (λ s g. Layered s g w (now (marks .entry)) r c x y k) (now (marks .entry)) (now (output .entry)) n (leftL o r c x y k 0) (now (marks .exit)) (now (output .exit)) m o) ⌝ }
+    requires { ⌜ SomeListing (λ s g. Layered s g w (now marks) r c x y k) (layersFrom r c x y k 0) (now marks) n ⌝ }
+    ensures { λ m. ⌜ ((s : Sheet) (g : Range) → Layered s g w (now (marks .entry)) r c x y k → _≡_ {A = Total} (record { count = m; marks = now (marks .exit); output = now (output .exit) }) (totalOf (indexOf (s .st)) (now (marks .entry)) (now (output .entry)) n (layersFrom r c x y k 0 s g))) ⌝ }
 {
     let layno1 = w.layno1;
     let mut count = n;
@@ -92,8 +93,8 @@ pub(crate) fn list_cell(
     y: u32,
     n: u32,
 ) -> u32
-    requires { ⌜ SomeCell (now prep) (now row) w (now marks) r c x y n ⌝ }
-    ensures { λ m. ⌜ ((o : Rest) → Listing (λ s g. Celled s g (now (prep .entry)) (now (row .entry)) w (now (marks .entry)) r c x y) (now (marks .entry)) (now (output .entry)) n (leftK o r c x y 0) (now (marks .exit)) (now (output .exit)) m o) ⌝ }
+    requires { ⌜ SomeListing (λ s g. Celled s g (now prep) (now row) w (now marks) r c x y) (cellFrom r c x y 0) (now marks) n ⌝ }
+    ensures { λ m. ⌜ ((s : Sheet) (g : Range) → Celled s g (now (prep .entry)) (now (row .entry)) w (now (marks .entry)) r c x y → _≡_ {A = Total} (record { count = m; marks = now (marks .exit); output = now (output .exit) }) (totalOf (indexOf (s .st)) (now (marks .entry)) (now (output .entry)) n (cellFrom r c x y 0 s g))) ⌝ }
 {
     match cell_in_row(prep, row, r, c, x) {
         Cell::At(k) => list_layers(marks, output, w, r, c, x, y, k, n),

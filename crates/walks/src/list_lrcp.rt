@@ -1,8 +1,6 @@
 // The listing in the order LRCP: layer, resolution, component, precinct (T.800 B.12.1.1).
-use crate::count::count_at;
-use crate::list::list_packet;
+use crate::level::list_level;
 use crate::walk::Walk;
-use packets::cursor::Position;
 ghost use mathlib.Core.Path.{_≡_};
 ghost use Rattle.packets.specs.Tile.{Sheet, indexOf};
 ghost use Rattle.packets.specs.Orders.{Range};
@@ -25,31 +23,12 @@ pub(crate) fn list_lrcp(
     let layno1 = w.layno1;
     let resno0 = w.resno0;
     let resno1 = w.resno1;
-    let compno0 = w.compno0;
-    let compno1 = w.compno1;
     let mut count = n;
     let mut l = 0;
     'ls: while l < layno1 {
         let mut r = resno0;
         'rs: while r < resno1 {
-            let mut c = compno0;
-            'cs: while c < compno1 {
-                let precincts = count_at(counts, r, c);
-                let mut k = 0;
-                'ks: while k < precincts {
-                    let p = Position {
-                        layno: l,
-                        resno: r,
-                        compno: c,
-                        precno: k,
-                        x: 0,
-                        y: 0,
-                    };
-                    count = list_packet(marks, output, w, p, count);
-                    k += 1;
-                }
-                c += 1;
-            }
+            count = list_level(marks, output, counts, w, l, r, count);
             r += 1;
         }
         l += 1;

@@ -11,10 +11,10 @@ ghost use Rattle.packets.specs.Grid.{stepX};
 ghost use Rattle.packets.specs.InPlay.{nextBefore, playX};
 ghost use Rattle.walks.specs.Prepared.{rangeBy, atRow};
 ghost use Rattle.walks.specs.Walk.{Ready};
-ghost use Rattle.walks.specs.Pcrl.{wholly, leftC, afterX};
+ghost use Rattle.walks.specs.Pcrl.{wholly, point};
 ghost use Rattle.walks.specs.Running.{Total, totalOf};
-ghost use Rattle.walks.specs.Listing.{Listing, SomeListing};
-ghost use Rattle.walks.specs.Layers.{Pointed, SomePointed};
+ghost use Rattle.walks.specs.Listing.{SomeListing};
+ghost use Rattle.walks.specs.Layers.{Pointed};
 
 // What a point is left with: how many packets there are then, and the next column.
 struct Passed {
@@ -33,8 +33,8 @@ fn list_point(
     y: u32,
     n: u32,
 ) -> Passed
-    requires { ⌜ SomePointed (now prep) (now row) w (now marks) x y n (leftC y x (w .compno0) (w .resno0) 0) ⌝ }
-    ensures { λ p. ⌜ Listing (λ s g. Pointed s g (now (prep .entry)) (now (row .entry)) w (now (marks .entry)) x y) (now (marks .entry)) (now (output .entry)) n (leftC y x (w .compno0) (w .resno0) 0) (now (marks .exit)) (now (output .exit)) (p .count) (afterX y x) × ((s : Sheet) (g : Range) → Pointed s g (now (prep .entry)) (now (row .entry)) w (now (marks .entry)) x y → p .next ≡ nextBefore (w .tx1) (rangeBy (w .resno0) (w .resno1) (w .compno0) (w .compno1)) (playX s (atRow y)) (stepX s) x) ⌝ }
+    requires { ⌜ SomeListing (λ s g. Pointed s g (now prep) (now row) w (now marks) x y) (point y x (w .compno0) (w .resno0) 0) (now marks) n ⌝ }
+    ensures { λ p. ⌜ ((s : Sheet) (g : Range) → Pointed s g (now (prep .entry)) (now (row .entry)) w (now (marks .entry)) x y → (_≡_ {A = Total} (record { count = p .count; marks = now (marks .exit); output = now (output .exit) }) (totalOf (indexOf (s .st)) (now (marks .entry)) (now (output .entry)) n (point y x (w .compno0) (w .resno0) 0 s g))) × (p .next ≡ nextBefore (w .tx1) (rangeBy (w .resno0) (w .resno1) (w .compno0) (w .compno1)) (playX s (atRow y)) (stepX s) x)) ⌝ }
 {
     let resno0 = w.resno0;
     let resno1 = w.resno1;

@@ -1,10 +1,7 @@
 // LRCP: layer, resolution, component, precinct (T.800 B.12.1.1).
-use crate::count::count_at;
+use crate::level::search_level;
 use crate::walk::Found;
 use crate::walk::Walk;
-use crate::walk::index;
-use crate::walk::is_free;
-use packets::cursor::Position;
 ghost use mathlib.Core.Path.{_≡_};
 ghost use Prim.Native.Nat.{_≤_};
 ghost use Rattle.laws.specs.Runs.{seek};
@@ -31,45 +28,16 @@ pub(crate) fn lrcp(
     let resno0 = w.resno0;
     let resno1 = w.resno1;
     let compno0 = w.compno0;
-    let compno1 = w.compno1;
     let mut r_at = r_from;
     let mut c_at = c_from;
     let mut k_at = k_from;
-    let mut found = false;
-    let mut place = Position {
-        layno: 0,
-        resno: 0,
-        compno: 0,
-        precno: 0,
-        x: 0,
-        y: 0,
-    };
     let mut l = l_from;
-    'search: while l < layno1 {
+    'ls: while l < layno1 {
         let mut r = r_at;
         'rs: while r < resno1 {
-            let mut c = c_at;
-            'cs: while c < compno1 {
-                let count = count_at(counts, r, c);
-                let mut k = k_at;
-                'ks: while k < count {
-                    let i = index(w, l, r, c, k);
-                    if is_free(marks, i) {
-                        found = true;
-                        place = Position {
-                            layno: l,
-                            resno: r,
-                            compno: c,
-                            precno: k,
-                            x: 0,
-                            y: 0,
-                        };
-                        break 'search;
-                    }
-                    k += 1;
-                }
-                k_at = 0;
-                c += 1;
+            match search_level(marks, counts, w, l, r, c_at, k_at) {
+                Found::At(place) => return Found::At(place),
+                Found::Nothing => {}
             }
             c_at = compno0;
             k_at = 0;
@@ -80,9 +48,5 @@ pub(crate) fn lrcp(
         k_at = 0;
         l += 1;
     }
-    if found {
-        Found::At(place)
-    } else {
-        Found::Nothing
-    }
+    Found::Nothing
 }

@@ -1,10 +1,7 @@
 // RLCP: resolution, layer, component, precinct (T.800 B.12.1.2).
-use crate::count::count_at;
+use crate::level::search_level;
 use crate::walk::Found;
 use crate::walk::Walk;
-use crate::walk::index;
-use crate::walk::is_free;
-use packets::cursor::Position;
 ghost use mathlib.Core.Path.{_≡_};
 ghost use Prim.Native.Nat.{_≤_};
 ghost use Rattle.laws.specs.Runs.{seek};
@@ -30,45 +27,16 @@ pub(crate) fn rlcp(
     let layno1 = w.layno1;
     let resno1 = w.resno1;
     let compno0 = w.compno0;
-    let compno1 = w.compno1;
     let mut l_at = l_from;
     let mut c_at = c_from;
     let mut k_at = k_from;
-    let mut found = false;
-    let mut place = Position {
-        layno: 0,
-        resno: 0,
-        compno: 0,
-        precno: 0,
-        x: 0,
-        y: 0,
-    };
     let mut r = r_from;
-    'search: while r < resno1 {
+    'rs: while r < resno1 {
         let mut l = l_at;
         'ls: while l < layno1 {
-            let mut c = c_at;
-            'cs: while c < compno1 {
-                let count = count_at(counts, r, c);
-                let mut k = k_at;
-                'ks: while k < count {
-                    let i = index(w, l, r, c, k);
-                    if is_free(marks, i) {
-                        found = true;
-                        place = Position {
-                            layno: l,
-                            resno: r,
-                            compno: c,
-                            precno: k,
-                            x: 0,
-                            y: 0,
-                        };
-                        break 'search;
-                    }
-                    k += 1;
-                }
-                k_at = 0;
-                c += 1;
+            match search_level(marks, counts, w, l, r, c_at, k_at) {
+                Found::At(place) => return Found::At(place),
+                Found::Nothing => {}
             }
             c_at = compno0;
             k_at = 0;
@@ -79,9 +47,5 @@ pub(crate) fn rlcp(
         k_at = 0;
         r += 1;
     }
-    if found {
-        Found::At(place)
-    } else {
-        Found::Nothing
-    }
+    Found::Nothing
 }

@@ -1,12 +1,22 @@
 -- `list_cell`: a precinct is met and its layers are listed, or none is. Assumes nothing.
-use Rattle.walks.specs.Listing.{first-listed, then-listed}
-use Rattle.walks.specs.Layers.{row-point, cell-layered, cell-left, cell-passed}
+use mathlib.Core.Path.{_≡_, sym, ap, _∙_}
+use denote.Ref.{now}
+use Rattle.packets.specs.Tile.{Sheet}
+use Rattle.packets.specs.Orders.{Range}
+use Rattle.walks.specs.Prepared.{cellOf}
+use Rattle.walks.specs.Running.{totalOf, total-none}
+use Rattle.walks.specs.Layers.{Celled, row-point, cell-layered, cell-left, cell-passed}
 use borrow.Author.Needs.{needs}
 use Rattle.walks.proofs.list.list_cell.Statement.{statement}
 use Rattle.walks.proofs.list.list_cell.Tie as tie
 
+-- what the cell answers, for every sheet that the listing is ready for
+cell-is : (c : tie.After-cell-in-row) (s : Sheet) (g : Range)
+    → (let a = c .before .before .before .args in Celled s g (now (a .prep)) (now (a .row)) (a .w) (now (a .marks)) (a .r) (a .c) (a .x) (a .y) → c .cell-in-row .result ≡ cellOf s (a .r) (a .c) (a .x) (a .y))
+cell-is c s g d = c .cell-in-row .ensures s _ (row-point s g _ _ _ _ _ _ _ _ d)
+
 cell-in-row-requires : tie.Need-cell-in-row-requires
-cell-in-row-requires c κs = let p = c .before .before .pre in (p .0, (_, row-point _ _ _ _ _ _ _ _ _ _ (p .1 .1 .1)))
+cell-in-row-requires c κs = let p = c .before .before .pre in (p .0, (_, row-point _ _ _ _ _ _ _ _ _ _ (p .1 .1)))
 
 enum-known-k : tie.Need-enum-known-k
 enum-known-k c = search needs
@@ -14,8 +24,11 @@ enum-known-k c = search needs
 list-layers-requires : tie.Need-list-layers-requires
 list-layers-requires c κs =
     let p = c .before .before .before .before .before .before .before .before .pre in
-    let d = p .1 .1 .1 in
-    (p .0, (p .1 .0, (p .1 .1 .0, cell-layered _ _ _ _ _ _ _ _ _ _ d (c .before .before .before .before .before .cell-in-row .result) (c .before .before .before .before .before .cell-in-row .ensures _ _ (row-point _ _ _ _ _ _ _ _ _ _ d)) _ (c .before .before .before .k .given .1), rw (cell-left _ _ _ _ _ _ _ _ _ _ d (c .before .before .before .before .before .cell-in-row .result) (c .before .before .before .before .before .cell-in-row .ensures _ _ (row-point _ _ _ _ _ _ _ _ _ _ d)) _ (c .before .before .before .k .given .1) (p .1 .1 .0)) at (p .1 .1 .2))))
+    let d = p .1 .1 in
+    let cell = c .before .before .before .before .before .cell-in-row .result in
+    let e = cell-is (c .before .before .before .before .before) _ _ d in
+    let k = c .before .before .before .k .given .1 in
+    (p .0, (p .1 .0, cell-layered _ _ _ _ _ (d .ready) _ _ _ _ (d .stands) cell e _ k, rw (cell-left _ _ _ _ _ (d .ready) _ _ _ _ (d .stands) cell e _ _ k) at (p .1 .2)))
 
 enum-told : tie.Need-enum-told
 enum-told c = search needs
@@ -27,13 +40,16 @@ same-length-2 : tie.Need-same-length-2
 same-length-2 c = search needs
 
 returns : tie.Need-returns
-returns c =
-    λ o. then-listed _ _ _ _ _ (first-listed _ _ _ _ _ _ (λ s g d. cell-left s g _ _ _ _ _ _ _ _ d (c .before .before .before .before .before .before .before .before .before .before .cell-in-row .result) (c .before .before .before .before .before .before .before .before .before .before .cell-in-row .ensures _ _ (row-point _ _ _ _ _ _ _ _ _ _ d)) _ (c .before .before .before .before .before .before .before .before .k .given .1) o)) (c .before .before .before .before .list-layers .ensures o)
-    (λ s g d. cell-layered s g _ _ _ _ _ _ _ _ d (c .before .before .before .before .before .before .before .before .before .before .cell-in-row .result) (c .before .before .before .before .before .before .before .before .before .before .cell-in-row .ensures _ _ (row-point _ _ _ _ _ _ _ _ _ _ d)) _ (c .before .before .before .before .before .before .before .before .k .given .1))
+returns c s g d =
+    let cell = c .before .before .before .before .before .before .before .before .before .before .cell-in-row .result in
+    let e = cell-is (c .before .before .before .before .before .before .before .before .before .before) s g d in
+    let k = c .before .before .before .before .before .before .before .before .k .given .1 in
+    c .before .before .before .before .list-layers .ensures s g (cell-layered s g _ _ _ (d .ready) _ _ _ _ (d .stands) cell e _ k)
+    ∙ ap (totalOf _ _ _ _) (sym (cell-left s g _ _ _ (d .ready) _ _ _ _ (d .stands) cell e _ _ k))
 
 returns-2 : tie.Need-returns-2
-returns-2 c =
-    λ o. first-listed _ _ _ _ _ _ (λ s g d. cell-passed s g _ _ _ _ _ _ _ _ d (c .before .before .cell-in-row .result) (c .before .before .cell-in-row .ensures _ _ (row-point _ _ _ _ _ _ _ _ _ _ d)) (c .enum-told .given .1) o)
+returns-2 c s g d =
+    sym (ap (totalOf _ _ _ _) (cell-passed s g _ _ _ (d .ready) _ _ _ _ (d .stands) (c .before .before .cell-in-row .result) (cell-is (c .before .before) s g d) _ (c .enum-told .given .1)) ∙ total-none _ _ _ _)
 
 pub list-cell-spec : {M : Type 1} → statement M
 list-cell-spec =

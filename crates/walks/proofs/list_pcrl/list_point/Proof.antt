@@ -1,7 +1,7 @@
 -- `list_point`: the run's end from what is left at each loop is that from what was left where the loop began (`Kept`), and x + best is the least next multiple of
 -- what the loops have passed (`NearestBefore`, `NearestSeen`). Assumes nothing.
 use borrow.Author.Needs.{needs}
-use mathlib.Core.Path.{refl, _∙_}
+use mathlib.Core.Path.{refl}
 use mathlib.Core.List.{List}
 use Prim.Native.Nat.{ℕ, _-_, _≤_, _<_, max}
 use native.Mathlib.Omega.{arith}
@@ -14,10 +14,10 @@ use Rattle.walks.specs.InRow.{PointPlay}
 use Rattle.walks.specs.Nexts.{NearestBefore, NearestSeen, nearest-first, nearest-enter, nearest-turn, nearest-leave, nearest-all}
 use Rattle.walks.specs.RowLaws.{point-part}
 use Rattle.walks.specs.Going.{Rest}
-use Rattle.walks.specs.AtPoint.{leftK}
-use Rattle.walks.specs.Listing.{Listing, first-listed, goes-on, then-listed, few-still}
+use Rattle.walks.specs.AtPoint.{cellFrom}
+use Rattle.walks.specs.Listing.{Listing, first-listed, goes-on, then-listed, part-listed, few-part, all-listed}
 use Rattle.walks.specs.Layers.{Pointed, pointed-long, pointed-cell}
-use Rattle.walks.specs.Pcrl.{leftC, leftR, afterR, inC, outC, onC, inR, outR, onR}
+use Rattle.walks.specs.Pcrl.{point, leftR, inC, outC, inR, outR}
 use Rattle.walks.specs.declared.walk.Walk.{Walk}
 use Rattle.walks.proofs.list_pcrl.list_point.Statement.{statement}
 use Rattle.walks.proofs.list_pcrl.list_point.Tie as tie
@@ -33,7 +33,7 @@ Here prep row w x y s = PointPlay s prep row (w .resno0) (w .resno1) (w .compno0
 abbrev Inv-rs : tie.InvT-rs
 Inv-rs marks₀ output₀ prep row w x y n resno0 resno1 compno1 count₀ best₀ c r₀ marks output count best r =
     (w .resno0 ≤ r) × (r ≤ max (w .resno0) (w .resno1))
-    × Kept marks₀ output₀ prep row w x y count₀ (leftR y x c (w .resno0) 0) marks output count (leftR y x c r 0)
+    × Kept marks₀ output₀ prep row w x y count₀ (leftR w y x c (w .resno0) 0) marks output count (leftR w y x c r 0)
     × NearestSeen (Here prep row w x y) (λ s. playX s (atRow y)) stepX (w .tx1) x (w .resno0) (w .resno1) (w .compno0) c r best
 
 abbrev μ-rs : tie.MeasureT-rs
@@ -43,7 +43,7 @@ abbrev μ-rs : tie.MeasureT-rs
 abbrev Inv-cs : tie.InvT-cs
 Inv-cs marks₀ output₀ prep row w x y n resno0 resno1 compno1 count₀ best₀ c₀ marks output count best c =
     (w .compno0 ≤ c) × (c ≤ max (w .compno0) (w .compno1))
-    × Kept marks₀ output₀ prep row w x y n (leftC y x (w .compno0) (w .resno0) 0) marks output count (leftC y x c (w .resno0) 0)
+    × Kept marks₀ output₀ prep row w x y n (point y x (w .compno0) (w .resno0) 0) marks output count (point y x c (w .resno0) 0)
     × NearestBefore (Here prep row w x y) (λ s. playX s (atRow y)) stepX (w .tx1) x (w .resno0) (w .resno1) (w .compno0) c best
 
 abbrev μ-cs : tie.MeasureT-cs
@@ -54,16 +54,15 @@ abbrev μ-cs : tie.MeasureT-cs
 before-end : (c : tie.After-struct-known Inv-rs μ-rs Inv-cs μ-cs) → c .before .before .before .args .x < c .before .before .before .args .w .tx1
 before-end c = let d = c .before .before .before .pre .1 .1 in rw (d .ready .ranged .tx1) (d .point .right)
 
-within-cs : (c : tie.In-cs Inv-rs μ-rs Inv-cs μ-cs)
-    → (let a = c .before .before .before .before .before .args in let o = c .before .cs in Kept (a .marks .now) (a .output .now) (a .prep .now) (a .row .now) (a .w) (a .x) (a .y) (a .n) (leftC (a .y) (a .x) (a .w .compno0) (a .w .resno0) 0) (o .marks) (o .output) (o .count) (leftR (a .y) (a .x) (o .c) (a .w .resno0) 0))
-within-cs c = goes-on _ _ _ _ _ _ (c .before .cs .inv .2) _ (λ s g h. inC s g _ _ _ _ _ (rw (h .ready .ranged .compno1) at (c .cs-test .taken)))
-
-within-rs : (c : tie.In-rs Inv-rs μ-rs Inv-cs μ-cs)
-    → (let a = c .before .before .before .before .before .before .before .args in let o = c .before .before .before .cs in let i = c .before .rs in Kept (a .marks .now) (a .output .now) (a .prep .now) (a .row .now) (a .w) (a .x) (a .y) (a .n) (leftC (a .y) (a .x) (a .w .compno0) (a .w .resno0) 0) (i .marks) (i .output) (i .count) (leftK (afterR (a .y) (a .x) (o .c) (i .r)) (i .r) (o .c) (a .x) (a .y) 0))
-within-rs c =
-    let t = within-cs (c .before .before) in
-    goes-on _ _ _ _ _ _ (then-listed _ _ _ _ _ t (c .before .rs .inv .2) (λ s g h. pointed-long s g _ _ _ _ _ _ h _ (t .long))) _
-    (λ s g h. inR s g _ _ _ _ _ (rw (h .ready .ranged .resno1) at (c .rs-test .taken)))
+-- from the whole to what is left where the inner loop stands
+at-rs : (c : tie.In-rs Inv-rs μ-rs Inv-cs μ-cs)
+    → (let a = c .before .before .before .before .before .before .before .args in
+    let i = c .before .rs in
+    Kept (a .marks .now) (a .output .now) (a .prep .now) (a .row .now) (a .w) (a .x) (a .y) (a .n) (point (a .y) (a .x) (a .w .compno0) (a .w .resno0) 0) (i .marks) (i .output) (i .count)
+    (leftR (a .w) (a .y) (a .x) (c .before .before .before .cs .c) (i .r) 0))
+at-rs c =
+    let o = c .before .before .before .cs .inv .2 in
+    then-listed _ _ _ _ _ (goes-on _ _ _ _ _ _ o _ (λ s g h. inC s g _ _ _ (h .ready) _ _ _ _ _ (c .before .before .cs-test .taken))) (c .before .rs .inv .2) (λ s g h. pointed-long s g _ _ _ _ _ _ h _ (o .long))
 
 sub-best : tie.Need-sub-best Inv-rs μ-rs Inv-cs μ-cs
 sub-best c = omega (arith, before-end c)
@@ -83,15 +82,13 @@ list-cell-requires : tie.Need-list-cell-requires Inv-rs μ-rs Inv-cs μ-cs
 list-cell-requires c κs =
     let p = c .before .before .before .before .before .before .before .before .before .before .pre in
     let d = p .1 .1 in
-    let t = within-rs (c .before .before .before) in (
+    let t = at-rs (c .before .before .before) in
+    let rt = c .before .before .before .rs-test .taken in (
       p .0,
       (
         p .1 .0,
-        (
-          _,
-          pointed-cell _ _ _ _ _ _ _ _ (pointed-long _ _ _ _ _ _ _ _ d _ (t .long)) _ _ (c .before .before .before .before .rs .inv .0) (c .before .before .before .rs-test .taken) (c .before .before .before .before .before .before .cs .inv .0) (c .before .before .before .before .before .cs-test .taken),
-          few-still _ _ _ _ _ _ t _ _ d (p .1 .2),
-        ),
+        pointed-cell _ _ _ _ _ _ _ _ (pointed-long _ _ _ _ _ _ _ _ d _ (t .long)) _ _ (c .before .before .before .before .rs .inv .0) rt (c .before .before .before .before .before .before .cs .inv .0) (c .before .before .before .before .before .cs-test .taken),
+        few-part _ _ _ _ _ _ t _ _ _ _ d (inR _ _ _ _ _ (d .ready) _ _ _ _ _ rt) (p .1 .2),
       ),
     )
 
@@ -107,13 +104,11 @@ rs-again c =
     let o = c .before .before .before .before .before .before .before .before .before .before .before .cs in
     let rt = c .before .before .before .before .before .before .before .before .rs-test .taken in
     let ct = c .before .before .before .before .before .before .before .before .before .before .cs-test .taken in
-    let p = c .before .before .before .before .before .before .before .before .before .before .before .before .before .before .before .pre in
-    let t = goes-on _ _ _ _ _ _ (i .2) _ (λ s g h. inR s g _ _ _ _ _ (rw (h .ready .ranged .resno1) at rt)) in (
+    let p = c .before .before .before .before .before .before .before .before .before .before .before .before .before .before .before .pre in (
       omega (arith, i .0),
       omega (arith, rt),
-      goes-on _ _ _ _ _ _
-          (then-listed _ _ _ _ _ t (c .before .before .before .before .list-cell .ensures _) (λ s g h. pointed-cell s g _ _ _ _ _ _ (pointed-long s g _ _ _ _ _ _ h _ (t .long)) _ _ (i .0) rt (o .inv .0) ct))
-          _ (λ s g h. onR s g _ _ _ _),
+      part-listed _ _ _ _ _ _ (i .2) (cellFrom _ _ _ _ _) _ (λ s g h. inR s g _ _ _ (h .ready) _ _ _ _ _ rt) (c .before .before .before .marks .given) (c .before .output .given)
+          (λ s g h. c .before .before .before .before .list-cell .ensures s g (pointed-cell s g _ _ _ _ _ _ (pointed-long s g _ _ _ _ _ _ h _ (i .2 .long)) _ _ (i .0) rt (o .inv .0) ct)),
       nearest-turn _ (i .3) (i .0) (p .0) (p .1 .1 .point) (λ s h. c .before .before .before .before .before .before .before .nearer-in-row .ensures s _ (point-part _ _ _ _ _ _ _ _ _ _ _ h (i .0) rt (o .inv .0) ct)),
     )
 
@@ -129,11 +124,10 @@ cs-again c =
     let i = c .before .rs .inv in
     let ct = c .before .before .cs-test .taken in
     let rl = c .rs-test .left in
-    let t = goes-on _ _ _ _ _ _ (o .2) _ (λ s g h. inC s g _ _ _ _ _ (rw (h .ready .ranged .compno1) at ct)) in (
+    let t = goes-on _ _ _ _ _ _ (o .2) _ (λ s g h. inC s g _ _ _ (h .ready) _ _ _ _ _ ct) in (
       omega (arith, o .0),
       omega (arith, ct),
-      goes-on _ _ _ _ _ _ (then-listed _ _ _ _ _ t (i .2) (λ s g h. pointed-long s g _ _ _ _ _ _ h _ (t .long))) _
-          (λ s g h. outR s g _ _ _ _ _ (rw (h .ready .ranged .resno1) at rl) ∙ onC s g _ _ _ _ (h .ready .ranged .resno0)),
+      goes-on _ _ _ _ _ _ (then-listed _ _ _ _ _ t (i .2) (λ s g h. pointed-long s g _ _ _ _ _ _ h _ (t .long))) _ (λ s g h. outR s g _ _ _ (h .ready) _ _ _ _ _ rl),
       nearest-leave (i .3) (o .0) (i .0) (i .1) rl,
     )
 
@@ -147,11 +141,11 @@ same-length-2 : tie.Need-same-length-2 Inv-rs μ-rs Inv-cs μ-cs
 same-length-2 c = c .before .cs .inv .2 .room
 
 returns : tie.Need-returns Inv-rs μ-rs Inv-cs μ-cs
-returns c =
+returns c s g h =
     let i = c .before .cs .inv in
     let l = c .cs-test .left in (
-      goes-on _ _ _ _ _ _ (i .2) _ (λ s g h. outC s g _ _ _ _ _ (rw (h .ready .ranged .compno1) at l)),
-      λ s g h. nearest-all (i .3) (rw (h .ready .ranged .tx1) (h .point .right)) (i .0) (i .1) l s (h .point),
+      all-listed _ _ _ _ _ _ (i .2) (λ s g h. outC s g _ _ _ (h .ready) _ _ _ _ _ l) s g h,
+      nearest-all (i .3) (rw (h .ready .ranged .tx1) (h .point .right)) (i .0) (i .1) l s (h .point),
     )
 
 pub list-point-spec : {M : Type 1} → statement M
