@@ -74,20 +74,9 @@ module _ (s : Sheet) (prep : List ℕ) (r c x y : ℕ) (a : AtPoint s prep r c x
   pub at-known : c < s .st .components
   at-known = omega (arith, a .play .known)
 
-  -- where there is no precinct none is met
-  pub cell-none : widthIn prep r c ≡ 0 → Nothing ≡ cellOf s r c x y
-  unfolding cellOf met
-  cell-none z = rw (none s prep r c at-entry z)
-
   module _ (n : 0 < widthIn prep r c) where
     has : 0 < precincts s c r
     has = some s prep r c at-entry n
-
-    pub step-pos-x : 1 ≤ field prep r c 1
-    step-pos-x = pos-x s prep r c at-entry (a .play .good) at-known has
-
-    pub step-pos-y : 1 ≤ field prep r c 2
-    step-pos-y = pos-y s prep r c at-entry (a .play .good) at-known has
 
     row-hit : hitBy (field prep r c 2) (field prep r c 4) y ≡ hitAt (lineY s c r) y
     row-hit = hit-y s prep r c at-entry has y (omega (arith, a .bottom, a .play .ends-y))
@@ -95,11 +84,7 @@ module _ (s : Sheet) (prep : List ℕ) (r c x y : ℕ) (a : AtPoint s prep r c x
     column-hit : hitBy (field prep r c 1) (field prep r c 3) x ≡ hitAt (lineX s c r) x
     column-hit = hit-x s prep r c at-entry has x (omega (arith, a .right, a .play .ends-x))
 
-    -- nor where the row or the column meets none
-    pub cell-no-row : hitBy (field prep r c 2) (field prep r c 4) y ≡ false → Nothing ≡ cellOf s r c x y
-    unfolding cellOf met
-    cell-no-row z = rw (lt-ltb 0 (precincts s c r) has, sym row-hit ∙ z)
-
+    -- where the column meets none, none is met
     pub cell-no-column : hitBy (field prep r c 2) (field prep r c 4) y ≡ true → hitBy (field prep r c 1) (field prep r c 3) x ≡ false → Nothing ≡ cellOf s r c x y
     unfolding cellOf met
     cell-no-column p z = rw (lt-ltb 0 (precincts s c r) has, sym row-hit ∙ p, sym column-hit ∙ z)
@@ -120,12 +105,9 @@ module _ (s : Sheet) (prep : List ℕ) (r c x y : ℕ) (a : AtPoint s prep r c x
           let l = at-entry .lines has in
           rw (l .step-y, l .first-y) (hit-quotient (lineY s c r) (a .play .good .step-y c at-known) y (a .top) (sym row-hit ∙ p))
 
-      -- the first column and row are at most the quotients
+      -- the first column is at most the quotient
       pub column-from : field prep r c 5 ≤ x / field prep r c 1
       column-from = column-is .1
-
-      pub row-from : field prep r c 6 ≤ y / field prep r c 2
-      row-from = row-is .1
 
       number-is : numberAt s (pointOf r c x y) ≡ x / field prep r c 1 - field prep r c 5 + (y / field prep r c 2 - field prep r c 6) * widthIn prep r c
       unfolding numberAt

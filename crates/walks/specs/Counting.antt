@@ -13,7 +13,7 @@ use Rattle.packets.specs.Tile.{resOf, precincts}
 use Rattle.packets.specs.Table.{sheetAt}
 use Rattle.packets.specs.Meaning.{Sound}
 use Rattle.packets.specs.declared.state.State.{State}
-use Rattle.walks.specs.Prepared.{countIn}
+use Rattle.walks.specs.Prepared.{numberIn}
 use Rattle.walks.specs.Prepare.{baseOf}
 use Rattle.walks.specs.Filling.{entry-count}
 use Rattle.walks.specs.FromSound.{sound-components}
@@ -32,8 +32,8 @@ pub record Entries (table : List ℕ) (base c n : ℕ) : Type 0 where
 -- the first m resolutions of a component are counted, and nothing else was written
 pub record Written (table : List ℕ) (base c : ℕ) (old new : List ℕ) (m : ℕ) : Type 0 where
   pub long : length new ≡ 528
-  pub kept : (r i : ℕ) → i < 16 → (r < m → i ≡ c → ⊥) → countIn new r i ≡ countIn old r i
-  pub counted : (r : ℕ) → r < m → countIn new r c ≡ product table base r
+  pub kept : (r i : ℕ) → i < 16 → (r < m → i ≡ c → ⊥) → numberIn new r i ≡ numberIn old r i
+  pub counted : (r : ℕ) → r < m → numberIn new r c ≡ product table base r
 
 -- k components: the entries of each stand behind those of the ones before
 pub record AllEntries (table : List ℕ) (k : ℕ) (resolutions : List ℕ) : Type 0 where
@@ -43,8 +43,8 @@ pub record AllEntries (table : List ℕ) (k : ℕ) (resolutions : List ℕ) : Ty
 -- the first m components are counted, and nothing else was written
 pub record AllWritten (table resolutions old new : List ℕ) (m : ℕ) : Type 0 where
   pub long : length new ≡ 528
-  pub kept : (r i : ℕ) → i < 16 → (i < m → r < getD resolutions i 0 → ⊥) → countIn new r i ≡ countIn old r i
-  pub counted : (c r : ℕ) → c < m → r < getD resolutions c 0 → countIn new r c ≡ product table (baseOf resolutions c) r
+  pub kept : (r i : ℕ) → i < 16 → (i < m → r < getD resolutions i 0 → ⊥) → numberIn new r i ≡ numberIn old r i
+  pub counted : (c r : ℕ) → c < m → r < getD resolutions c 0 → numberIn new r c ≡ product table (baseOf resolutions c) r
 
 -- nothing yet
 pub none-written : (table : List ℕ) (base c : ℕ) (old : List ℕ) → length old ≡ 528 → Written table base c old old 0
@@ -59,7 +59,7 @@ pub more-written : (table : List ℕ) (base c n : ℕ) (old counts : List ℕ) (
 more-written table base c n old counts r g h d =
     let v : ℕ = product table base r in
     let there : 16 * r + c < length counts = omega (arith, g .levels, g .components, d .long) in
-    let over : (q i : ℕ) → i < 16 → (q ≡ r → i ≡ c → ⊥) → countIn (set counts (16 * r + c) v) q i ≡ countIn counts q i
+    let over : (q i : ℕ) → i < 16 → (q ≡ r → i ≡ c → ⊥) → numberIn (set counts (16 * r + c) v) q i ≡ numberIn counts q i
     = λ q i p f. getD-set-other counts (16 * r + c) (16 * q + i) v 0 (λ e. f (omega (arith, g .components)) (omega (arith, g .components))) in
     record {
       long = length-set counts (16 * r + c) v ∙ d .long;
@@ -98,7 +98,7 @@ sound-entries st table marks w =
 
 -- the counts are those of a sheet
 abbrev pub AllCounted : State → List ℕ → List ℕ → Type 0
-AllCounted st table counts = (c r : ℕ) → c < st .components → countIn counts r c ≡ precincts (sheetAt st table) c r
+AllCounted st table counts = (c r : ℕ) → c < st .components → numberIn counts r c ≡ precincts (sheetAt st table) c r
 
 pub sound-counts : (st : State) (table marks old new : List ℕ) → Sound st table marks → AllWritten table (st .resolutions) old new (st .components)
     → ((i : ℕ) → getD old i 0 ≡ 0) → AllCounted st table new

@@ -15,7 +15,7 @@ use Rattle.packets.specs.Positions.{components, everyPrecinct}
 use Rattle.packets.specs.Met.{precincts-in}
 use Rattle.packets.specs.Inside.{Inside}
 use Rattle.packets.specs.declared.cursor.Position.{Position}
-use Rattle.walks.specs.Prepared.{countIn}
+use Rattle.walks.specs.Prepared.{numberIn}
 use Rattle.walks.specs.Walk.{indexBy, Counted}
 use Rattle.walks.specs.Going.{Rest}
 use Rattle.walks.specs.Marks.{same-mark, fits-mark, has-mark, reads-mark}
@@ -74,7 +74,7 @@ module _ (s : Sheet) (g : Range) (counts : List ℕ) (w : Walk) (marks : List �
       let q = counted .ranged in
       (omega (arith, counted .resolutions, q .resno1, t .level .res-to), omega (arith, counted .components, q .compno1, t .comp-to))
 
-  module _ (n : ℕ) (e : n ≡ countIn counts r c) where
+  module _ (n : ℕ) (e : n ≡ numberIn counts r c) where
     pub count-is : n ≡ precincts s c r
     count-is =
         let q = counted .ranged in

@@ -2,16 +2,17 @@
 use mathlib.Core.Path.{_≡_, sym, _∙_}
 use mathlib.Core.Bool.{Bool}
 use mathlib.Core.List.{List, []}
-use Prim.Native.Nat.{ℕ, _+_, _*_, _≤_, _<_}
+use Prim.Native.Nat.{ℕ, _≤_, _<_}
 use lib.ListN.{length, getD}
 use lib.Dec.{eqb}
 use Rattle.packets.specs.Tile.{Sheet, indexOf}
 use Rattle.packets.specs.Orders.{Range}
 use Rattle.packets.specs.Good.{Good}
 use Rattle.packets.specs.Inside.{Inside}
-use Rattle.walks.specs.Prepared.{cellOf}
-use Rattle.walks.specs.InRow.{rowOf, RowPoint, PointPlay}
-use Rattle.walks.specs.Turns.{Stands, at-point, met-inside, cell-met, cell-missed}
+use Rattle.walks.specs.Prepared.{numberIn, cellOf}
+use Rattle.walks.specs.InRow.{RowPoint, PointPlay}
+use Rattle.walks.specs.RowLaws.{point-part}
+use Rattle.walks.specs.Turns.{Stands, met-inside, cell-met, cell-missed}
 use Rattle.walks.specs.declared.cell.Cell.{Cell}
 use Rattle.walks.specs.declared.cell.Cell.the-variants.{At, Nothing}
 use Rattle.walks.specs.Walk.{Ranged, Ready, ready-long}
@@ -63,13 +64,10 @@ module _
     cell-passed l f = misses s g r c x y l (cell-missed s r c x y (sym e ∙ f))
 
 -- .. in a row that is noted
-pub record Celled (s : Sheet) (g : Range) (prep row : List ℕ) (w : Walk) (marks : List ℕ) (r c x y : ℕ) : Type 0 where
+pub record Celled (s : Sheet) (g : Range) (prep : List ℕ) (first : ℕ) (w : Walk) (marks : List ℕ) (r c x y : ℕ) : Type 0 where
   pub ready : Ready s g prep w marks
   pub stands : Stands w r c x y
-  pub noted : getD row (16 * r + c) 0 ≡ rowOf s r c y
-
-pub row-point : (s : Sheet) (g : Range) (prep row : List ℕ) (w : Walk) (marks : List ℕ) (r c x y : ℕ) → Celled s g prep row w marks r c x y → RowPoint s prep row r c x y
-row-point s g prep row w marks r c x y d = record { point = at-point s g prep w marks (d .ready) r c x y (d .stands); noted = d .noted }
+  pub point : RowPoint s prep first r c x y
 
 -- .. and so do all components and resolutions in range
 pub record Pointed (s : Sheet) (g : Range) (prep row : List ℕ) (w : Walk) (marks : List ℕ) (x y : ℕ) : Type 0 where
@@ -82,12 +80,12 @@ module _ (s : Sheet) (g : Range) (prep row : List ℕ) (w : Walk) (marks : List 
   pointed-long other e = record { ready = ready-long s g prep w marks other e (d .ready); point = d .point }
 
   -- one of them
-  pub pointed-cell : (r c : ℕ) → w .resno0 ≤ r → r < w .resno1 → w .compno0 ≤ c → c < w .compno1 → Celled s g prep row w marks r c x y
-  pointed-cell r c a b i j =
+  pub pointed-cell : (first r c : ℕ) → first ≡ numberIn row r c → w .resno0 ≤ r → r < w .resno1 → w .compno0 ≤ c → c < w .compno1 → Celled s g prep first w marks r c x y
+  pointed-cell first r c e a b i j =
       let q = d .ready .ranged in
       let p = d .point in
       record {
         ready = d .ready;
         stands = record { tile = record { left = rw (q .tx0) (p .left); right = rw (q .tx1) (p .right); top = rw (q .ty0) (p .at .top); bottom = rw (q .ty1) (p .at .bottom) }; res-from = a; res-to = b; comp-from = i; comp-to = j };
-        noted = p .noted r c a b i j;
+        point = point-part s prep row _ _ _ _ x y first r c e p a b i j;
       }

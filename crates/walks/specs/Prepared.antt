@@ -24,9 +24,9 @@ field prep r c j = getD prep (7 * (16 * r + c) + j) 0
 abbrev pub widthIn : List ℕ → ℕ → ℕ → ℕ
 widthIn prep r c = getD prep (7 * (16 * r + c)) 0
 
--- the number of precincts of resolution r of component c, by an array of counts
-abbrev pub countIn : List ℕ → ℕ → ℕ → ℕ
-countIn counts r c = getD counts (16 * r + c) 0
+-- the number of resolution r of component c, in an array of one for each
+abbrev pub numberIn : List ℕ → ℕ → ℕ → ℕ
+numberIn counts r c = getD counts (16 * r + c) 0
 
 -- the tile's start where it lies inside a precinct, else 2^32 - 1, which no point is
 abbrev pub insideStart : Line → ℕ

@@ -19,11 +19,11 @@ use Rattle.packets.specs.Grid.{stepX}
 use Rattle.packets.specs.InPlay.{playX}
 use Rattle.packets.specs.Met.{precincts-of, precincts-in, ordered-y}
 use Rattle.packets.specs.Positions.{met}
-use Rattle.walks.specs.Prepared.{field, widthIn, hitBy, Entry, atRow, cellOf}
-use Rattle.walks.specs.Cells.{some, wide-of, hit-y, step-pos-x, cell-no-column, column-from, number-small, cell-met}
-use Rattle.walks.specs.Nexts.{columns-out, columns-row, step-columns, play-y}
+use Rattle.walks.specs.Prepared.{field, widthIn, numberIn, hitBy, Entry, AtPoint, atRow, cellOf}
+use Rattle.walks.specs.Cells.{some, wide-of, hit-y, cell-no-column, column-from, number-small, cell-met}
+use Rattle.walks.specs.Nexts.{columns-out, columns-row, step-columns, play-x, play-y}
 use Rattle.walks.specs.Turns.{play-part}
-use Rattle.walks.specs.InRow.{rowOf, AtRow, Row, RowPoint, PointPlay}
+use Rattle.walks.specs.InRow.{rowOf, AtRow, Row, RowStart, RowPoint, PointPlay}
 use Rattle.walks.specs.declared.cell.Cell.the-variants.{At, Nothing}
 
 -- IN PLAY, where what is noted is not 0
@@ -53,11 +53,10 @@ pub row-part : (s : Sheet) (prep : List ℕ) (r0 r1 c0 c1 y r c : ℕ) → AtRow
 row-part s prep r0 r1 c0 c1 y r c a p q i j =
     record { play = play-part s prep r0 r1 c0 c1 r (r + 1) c (c + 1) (a .play) p (omega arith) i (omega arith); top = a .top; bottom = a .bottom }
 
-pub point-part : (s : Sheet) (prep row : List ℕ) (r0 r1 c0 c1 x y r c : ℕ) → PointPlay s prep row r0 r1 c0 c1 x y → r0 ≤ r → r < r1 → c0 ≤ c → c < c1
-    → RowPoint s prep row r c x y
-point-part s prep row r0 r1 c0 c1 x y r c h a b i j =
-    let t = row-part s prep r0 r1 c0 c1 y r c (h .at) a b i j in
-    record { point = record { play = t .play; left = h .left; right = h .right; top = t .top; bottom = t .bottom }; noted = h .noted r c a b i j }
+pub point-part : (s : Sheet) (prep row : List ℕ) (r0 r1 c0 c1 x y first r c : ℕ) → first ≡ numberIn row r c
+    → PointPlay s prep row r0 r1 c0 c1 x y → r0 ≤ r → r < r1 → c0 ≤ c → c < c1 → RowPoint s prep first r c x y
+point-part s prep row r0 r1 c0 c1 x y first r c e h a b i j =
+    record { start = record { at = row-part s prep r0 r1 c0 c1 y r c (h .at) a b i j; noted = e ∙ h .noted r c a b i j }; left = h .left; right = h .right }
 
 -- A ROW, by the prepared numbers
 module _ (s : Sheet) (prep : List ℕ) (r c y : ℕ) (a : AtRow s prep r (r + 1) c (c + 1) y) where
@@ -114,59 +113,65 @@ module _ (s : Sheet) (prep : List ℕ) (r c y : ℕ) (a : AtRow s prep r (r + 1)
       unfolding rowOf
       row-met = rw (columns-row s prep r c row-entry y row-inside n ∙ p, row-is .0, wide-of s prep r c row-entry has)
 
--- A POINT of a row that is noted
-module _ (s : Sheet) (prep row : List ℕ) (r c x y : ℕ) (h : RowPoint s prep row r c x y) where
-  at-row : AtRow s prep r (r + 1) c (c + 1) y
-  at-row = record { play = h .point .play; top = h .point .top; bottom = h .point .bottom }
+-- WHAT IS NOTED OF A ROW
+module _ (s : Sheet) (prep : List ℕ) (first r c y : ℕ) (h : RowStart s prep first r c y) where
+  -- 0 where it meets no precinct: nothing is in play there
+  pub noted-out : first ≡ 0 → playX s (atRow y) c r ≡ false
+  noted-out z = row-out s r c y (sym (h .noted) ∙ z)
+
+  module _ (n : 0 < first) where
+    pub noted-in : playX s (atRow y) c r ≡ true
+    noted-in = row-in s r c y (rw (h .noted) at n)
+
+    sure : (0 < widthIn prep r c) × (hitBy (field prep r c 2) (field prep r c 4) y ≡ true)
+    sure = shown s prep r c y (row-entry s prep r c y (h .at)) (row-inside s prep r c y (h .at)) noted-in
+
+    pub noted-columns : stepX s c r ≡ field prep r c 1
+    noted-columns = step-columns s prep r c (row-entry s prep r c y (h .at)) (sure .0)
+
+    pub noted-step : 1 ≤ field prep r c 1
+    noted-step =
+        play-x s prep r (r + 1) c (c + 1) r c (h .at .play) (omega arith) (omega arith) (omega arith) (omega arith) (sure .0)
+
+-- A POINT of it
+module _ (s : Sheet) (prep : List ℕ) (first r c x y : ℕ) (h : RowPoint s prep first r c x y) where
+  point : AtPoint s prep r c x y
+  point = let a = h .start .at in record { play = a .play; left = h .left; right = h .right; top = a .top; bottom = a .bottom }
 
   -- where the row meets no precinct none is met
-  pub noted-none : getD row (16 * r + c) 0 ≡ 0 → Nothing ≡ cellOf s r c x y
+  pub noted-none : first ≡ 0 → Nothing ≡ cellOf s r c x y
   unfolding cellOf met
   noted-none z =
-      rw (by (ltb 0 (precincts s c r)) (hitAt (lineY s c r) y) (hitAt (lineX s c r) x) (row-out s r c y (sym (h .noted) ∙ z)))
+      rw (by (ltb 0 (precincts s c r)) (hitAt (lineY s c r) y) (hitAt (lineX s c r) x) (noted-out s prep first r c y (h .start) z))
     where
       by : (a b d : Bool) → (a && b) ≡ false → (a && (b && d)) ≡ false
       by true true d e = absurd (let z : _≡_ {A = ℕ} 0 1 = cc in let n : ⊥ = omega arith in n)
       by true false d e = refl
       by false b d e = refl
 
-  -- nor is anything in play there
-  pub noted-out : getD row (16 * r + c) 0 ≡ 0 → playX s (atRow y) c r ≡ false
-  noted-out z = row-out s r c y (sym (h .noted) ∙ z)
-
-  module _ (n : 0 < getD row (16 * r + c) 0) where
-    pub noted-in : playX s (atRow y) c r ≡ true
-    noted-in = row-in s r c y (rw (h .noted) at n)
-
-    sure : (0 < widthIn prep r c) × (hitBy (field prep r c 2) (field prep r c 4) y ≡ true)
-    sure =
-        shown s prep r c y (row-entry s prep r c y at-row) (row-inside s prep r c y at-row) noted-in
-
-    pub noted-columns : stepX s c r ≡ field prep r c 1
-    noted-columns = step-columns s prep r c (row-entry s prep r c y at-row) (sure .0)
-
-    pub noted-step : 1 ≤ field prep r c 1
-    noted-step = step-pos-x s prep r c x y (h .point) (sure .0)
+  module _ (n : 0 < first) where
+    known : (0 < widthIn prep r c) × (hitBy (field prep r c 2) (field prep r c 4) y ≡ true)
+    known = sure s prep first r c y (h .start) n
 
     -- nor where the column meets none
     pub noted-missed : hitBy (field prep r c 1) (field prep r c 3) x ≡ false → Nothing ≡ cellOf s r c x y
-    noted-missed z = cell-no-column s prep r c x y (h .point) (sure .0) (sure .1) z
+    noted-missed z = cell-no-column s prep r c x y point (known .0) (known .1) z
 
     module _ (q : hitBy (field prep r c 1) (field prep r c 3) x ≡ true) where
       -- the first column is at most the quotient
       pub noted-from : field prep r c 5 ≤ x / field prep r c 1
-      noted-from = column-from s prep r c x y (h .point) (sure .0) (sure .1) q
+      noted-from = column-from s prep r c x y point (known .0) (known .1) q
 
-      start-is : getD row (16 * r + c) 0 - 1 ≡ (y / field prep r c 2 - field prep r c 6) * widthIn prep r c
-      start-is = omega (arith, h .noted, row-met s prep r c y at-row (sure .0) (sure .1))
+      start-is : first - 1 ≡ (y / field prep r c 2 - field prep r c 6) * widthIn prep r c
+      start-is = omega (arith, h .start .noted, row-met s prep r c y (h .start .at) (known .0) (known .1))
 
       -- the number fits
-      pub noted-small : x / field prep r c 1 - field prep r c 5 + (getD row (16 * r + c) 0 - 1) < 65536
-      noted-small = rw start-is (number-small s prep r c x y (h .point) (sure .0) (sure .1) q)
+      pub noted-small : x / field prep r c 1 - field prep r c 5 + (first - 1) < 65536
+      noted-small = rw start-is (number-small s prep r c x y point (known .0) (known .1) q)
 
       -- the precinct that is met
-      pub noted-met : At (x / field prep r c 1 - field prep r c 5 + (getD row (16 * r + c) 0 - 1)) ≡ cellOf s r c x y
-      noted-met = rw start-is (cell-met s prep r c x y (h .point) (sure .0) (sure .1) q)
+      pub noted-met : At (x / field prep r c 1 - field prep r c 5 + (first - 1)) ≡ cellOf s r c x y
+      noted-met = rw start-is (cell-met s prep r c x y point (known .0) (known .1) q)
 
 -- NOTING: what two loops have noted so far, of the components before c and of c itself before r
 abbrev pub Noted : Sheet → List ℕ → ℕ → ℕ → ℕ → ℕ → ℕ → ℕ → Type 0

@@ -8,7 +8,7 @@ use Rattle.packets.specs.Tile.{Sheet, strideC, strideR, strideL, needed, precin
 use Rattle.packets.specs.Orders.{Range}
 use Rattle.packets.specs.Good.{Good}
 use Rattle.packets.specs.declared.cursor.Position.{Position}
-use Rattle.walks.specs.Prepared.{InPlay, countIn}
+use Rattle.walks.specs.Prepared.{InPlay, numberIn}
 use Rattle.walks.specs.declared.walk.Walk.{Walk}
 use Rattle.walks.specs.declared.walk.Found.{Found}
 use Rattle.walks.specs.declared.walk.Found.the-variants as found
@@ -80,7 +80,7 @@ pub record Counted (s : Sheet) (g : Range) (counts : List ℕ) (w : Walk) (marks
   pub good : Good s
   pub resolutions : g .resno1 ≤ 33
   pub components : g .compno1 ≤ 16
-  pub number : (r c : ℕ) → g .resno0 ≤ r → r < g .resno1 → g .compno0 ≤ c → c < g .compno1 → countIn counts r c ≡ precincts s c r
+  pub number : (r c : ℕ) → g .resno0 ≤ r → r < g .resno1 → g .compno0 ≤ c → c < g .compno1 → numberIn counts r c ≡ precincts s c r
 
 pub counted-long : (s : Sheet) (g : Range) (counts : List ℕ) (w : Walk) (marks other : List ℕ) → length other ≡ length marks → Counted s g counts w marks → Counted s g counts w other
 counted-long s g counts w marks other e q =

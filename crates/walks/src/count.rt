@@ -1,16 +1,7 @@
 // The number of precincts of each component at each resolution, counted once (specs Counting).
 ghost use mathlib.Core.Path.{_≡_};
-ghost use Prim.Native.Nat.{_<_};
 ghost use lib.ListN.{length};
-ghost use Rattle.walks.specs.Prepared.{countIn};
 ghost use Rattle.walks.specs.Counting.{Entries, Written, AllEntries, AllWritten};
-
-pub(crate) fn count_at(counts: &[u32; 528], r: u32, c: u32) -> u32
-    requires { ⌜ (r < 33) × (c < 16) ⌝ }
-    ensures { λ n. ⌜ n ≡ countIn (now (counts .entry)) r c ⌝ }
-{
-    counts[16 * (r as usize) + (c as usize)]
-}
 
 // Those of component c, which has n resolutions, and whose entries stand from place base of the table on.
 fn count_component(counts: &mut [u32; 528], table: &[u8], base: usize, c: u32, n: u32)

@@ -1,5 +1,5 @@
 // One resolution in one layer, in the order component, precinct: what LRCP and RLCP go over.
-use crate::count::count_at;
+use crate::cell::number_at;
 use crate::list::list_packet;
 use crate::walk::Found;
 use crate::walk::Walk;
@@ -33,7 +33,7 @@ pub(crate) fn search_level(
     let mut k_at = k_from;
     let mut c = c_from;
     'cs: while c < compno1 {
-        let count = count_at(counts, r, c);
+        let count = number_at(counts, r, c);
         let mut k = k_at;
         'ks: while k < count {
             let i = index(w, l, r, c, k);
@@ -72,7 +72,7 @@ pub(crate) fn list_level(
     let mut count = n;
     let mut c = w.compno0;
     'cs: while c < compno1 {
-        let precincts = count_at(counts, r, c);
+        let precincts = number_at(counts, r, c);
         let mut k = 0;
         'ks: while k < precincts {
             let p = Position {

@@ -1,6 +1,6 @@
 // What a listing goes through: a packet, the layers of a precinct, the precinct at a point.
 use crate::cell::Cell;
-use crate::row::cell_in_row;
+use crate::cell::cell_from;
 use crate::walk::Walk;
 use crate::walk::index;
 use crate::walk::is_free;
@@ -80,12 +80,12 @@ pub(crate) fn list_layers(
     count
 }
 
-// Lists the layers of the precinct of component c at resolution r that is met at (x, y), if one is.
+// Lists the layers of the precinct of component c at resolution r that is met at (x, y), if one is; first tells what the row meets (cell::row_at).
 pub(crate) fn list_cell(
     marks: &mut [u8],
     output: &mut [u8],
     prep: &[u32; 3696],
-    row: &[u32; 528],
+    first: u32,
     w: Walk,
     r: u32,
     c: u32,
@@ -93,10 +93,10 @@ pub(crate) fn list_cell(
     y: u32,
     n: u32,
 ) -> u32
-    requires { ⌜ SomeListing (λ s g. Celled s g (now prep) (now row) w (now marks) r c x y) (cellFrom r c x y 0) (now marks) n ⌝ }
-    ensures { λ m. ⌜ ((s : Sheet) (g : Range) → Celled s g (now (prep .entry)) (now (row .entry)) w (now (marks .entry)) r c x y → _≡_ {A = Total} (record { count = m; marks = now (marks .exit); output = now (output .exit) }) (totalOf (indexOf (s .st)) (now (marks .entry)) (now (output .entry)) n (cellFrom r c x y 0 s g))) ⌝ }
+    requires { ⌜ SomeListing (λ s g. Celled s g (now prep) first w (now marks) r c x y) (cellFrom r c x y 0) (now marks) n ⌝ }
+    ensures { λ m. ⌜ ((s : Sheet) (g : Range) → Celled s g (now (prep .entry)) first w (now (marks .entry)) r c x y → _≡_ {A = Total} (record { count = m; marks = now (marks .exit); output = now (output .exit) }) (totalOf (indexOf (s .st)) (now (marks .entry)) (now (output .entry)) n (cellFrom r c x y 0 s g))) ⌝ }
 {
-    match cell_in_row(prep, row, r, c, x) {
+    match cell_from(prep, first, r, c, x) {
         Cell::At(k) => list_layers(marks, output, w, r, c, x, y, k, n),
         Cell::Nothing => n,
     }

@@ -1,7 +1,8 @@
 // The listing in the order PCRL: y, x, component, resolution, layer (T.800 B.12.1.4).
+use crate::cell::number_at;
 use crate::list::list_cell;
+use crate::next::nearer_from;
 use crate::row::fill_row;
-use crate::row::nearer_in_row;
 use crate::walk::Walk;
 ghost use mathlib.Core.Path.{_≡_};
 ghost use lib.ListN.{length};
@@ -45,8 +46,9 @@ fn list_point(
     'cs: while c < compno1 {
         let mut r = resno0;
         'rs: while r < resno1 {
-            best = nearer_in_row(prep, row, r, c, x, best);
-            count = list_cell(marks, output, prep, row, w, r, c, x, y, count);
+            let first = number_at(row, r, c);
+            best = nearer_from(prep, first, r, c, x, best);
+            count = list_cell(marks, output, prep, first, w, r, c, x, y, count);
             r += 1;
         }
         c += 1;

@@ -1,12 +1,13 @@
 // The next row or column of a tile at which something in play can be met: resolutions r0 to r1 of components c0 to c1 that have precincts and,
 // for columns, that the row y meets. Beyond the last there is the end.
-use crate::cell::hits;
+use crate::cell::row_at;
 ghost use mathlib.Core.Path.{_≡_};
 ghost use Prim.Native.Nat.{_+_, _-_, _%_, _<_, _≤_, min};
 ghost use Rattle.packets.specs.Tile.{Sheet};
 ghost use Rattle.packets.specs.InPlay.{nextBefore, playX, playY};
 ghost use Rattle.packets.specs.Grid.{stepX, stepY};
 ghost use Rattle.walks.specs.Prepared.{InPlay, SomePlay, rangeBy, atRow};
+ghost use Rattle.walks.specs.InRow.{AtRow, SomeRow, RowStart, SomeRowStart};
 ghost use Rattle.walks.specs.Nexts.{nearerBy};
 
 // The distance from z to the next multiple of the step, if that is less.
@@ -55,19 +56,15 @@ pub(crate) fn next_row(
     y + best
 }
 
-// The distance from column x to the next at which row y can meet one, if that is less.
-fn nearer_column(prep: &[u32; 3696], r: u32, c: u32, y: u32, x: u32, best: u32) -> u32
-    requires { ⌜ (y < 4294967295) × SomePlay (now prep) r (r + 1) c (c + 1) ⌝ }
-    ensures { λ n. ⌜ ((s : Sheet) → InPlay s (now (prep .entry)) r (r + 1) c (c + 1) → n ≡ nearerBy (playX s (atRow y) c r) (stepX s c r) x best) ⌝ }
+// The distance from x to the next column at which a row can meet a precinct of component c at resolution r, if that is less; first is 0 where it meets none.
+pub(crate) fn nearer_from(prep: &[u32; 3696], first: u32, r: u32, c: u32, x: u32, best: u32) -> u32
+    requires { ⌜ SomeRowStart (now prep) first r c ⌝ }
+    ensures { λ n. ⌜ ((s : Sheet) (y : _) → RowStart s (now (prep .entry)) first r c y → n ≡ nearerBy (playX s (atRow y) c r) (stepX s c r) x best) ⌝ }
 {
-    let at = 7 * (16 * (r as usize) + (c as usize));
-    if prep[at] == 0 {
+    if first == 0 {
         return best;
     }
-    if !hits(y, prep[at + 2], prep[at + 4]) {
-        return best;
-    }
-    nearer(best, prep[at + 1], x)
+    nearer(best, prep[7 * (16 * (r as usize) + (c as usize)) + 1], x)
 }
 
 pub(crate) fn next_column(
@@ -80,15 +77,15 @@ pub(crate) fn next_column(
     x: u32,
     end: u32,
 ) -> u32
-    requires { ⌜ (x < end) × (y < 4294967295) × SomePlay (now prep) r0 r1 c0 c1 ⌝ }
-    ensures { λ z. ⌜ ((s : Sheet) → InPlay s (now (prep .entry)) r0 r1 c0 c1 → z ≡ nextBefore end (rangeBy r0 r1 c0 c1) (playX s (atRow y)) (stepX s) x) ⌝ }
+    requires { ⌜ (x < end) × SomeRow (now prep) r0 r1 c0 c1 y ⌝ }
+    ensures { λ z. ⌜ ((s : Sheet) → AtRow s (now (prep .entry)) r0 r1 c0 c1 y → z ≡ nextBefore end (rangeBy r0 r1 c0 c1) (playX s (atRow y)) (stepX s) x) ⌝ }
 {
     let mut best = end - x;
     let mut c = c0;
     'cs: while c < c1 {
         let mut r = r0;
         'rs: while r < r1 {
-            best = nearer_column(prep, r, c, y, x, best);
+            best = nearer_from(prep, row_at(prep, r, c, y), r, c, x, best);
             r += 1;
         }
         c += 1;

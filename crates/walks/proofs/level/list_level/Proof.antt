@@ -45,8 +45,8 @@ at-ks c =
 cs-holds : tie.Need-cs-holds Inv-ks μ-ks Inv-cs μ-cs
 cs-holds c = (omega arith, first-listed _ _ _ _ _ _ (λ s g h. refl))
 
-count-at-requires : tie.Need-count-at-requires Inv-ks μ-ks Inv-cs μ-cs
-count-at-requires c κs = let p = c .before .before .before .before .pre .1 in held (p .0) (p .1 .0) _ _ _ (p .1 .1) _ _ _ (stands c)
+number-at-requires : tie.Need-number-at-requires Inv-ks μ-ks Inv-cs μ-cs
+number-at-requires c κs = let p = c .before .before .before .before .pre .1 in held (p .0) (p .1 .0) _ _ _ (p .1 .1) _ _ _ (stands c)
 
 ks-holds : tie.Need-ks-holds Inv-ks μ-ks Inv-cs μ-cs
 ks-holds c = first-listed _ _ _ _ _ _ (λ s g h. refl)
@@ -56,7 +56,7 @@ list-packet-requires c κs =
     let p = c .before .before .before .before .before .before .before .before .before .pre .1 in
     let t = at-ks (c .before .before) in
     let s = stands (c .before .before .before .before .before) in
-    let e = c .before .before .before .before .count-at .ensures in
+    let e = c .before .before .before .before .number-at .ensures in
     let h = c .before .before .ks-test .taken in (
       mark-fits (p .0) (p .1 .0) _ _ _ (p .1 .1) _ _ _ s _ e _ h,
       rw (t .long) (mark-there (p .0) (p .1 .0) _ _ _ (p .1 .1) _ _ _ s _ e _ h),
@@ -72,7 +72,7 @@ ks-less c = search needs
 ks-again : tie.Need-ks-again Inv-ks μ-ks Inv-cs μ-cs
 ks-again c =
     let s' = stands (c .before .before .before .before .before .before .before .before .before .before) in
-    let e = c .before .before .before .before .before .before .before .before .before .count-at .ensures in
+    let e = c .before .before .before .before .before .before .before .before .before .number-at .ensures in
     let k = c .before .before .before .before .before .before .before .ks-test .taken in
     one-listed _ _ _ _ _ _ (c .before .before .before .before .before .before .before .before .ks .inv) _ _ _ (λ s g h. (inK s g _ _ _ _ (below s g _ _ _ h _ _ _ s' _ e _ k), mark-is s g _ _ _ h _ _ _ s' _ e _ k))
     (search needs) (search needs) (c .before .before .before .before .list-packet .ensures)
@@ -89,7 +89,7 @@ cs-again c =
     let t = goes-on _ _ _ _ _ _ (o .1) _ (λ s g h. inC s g _ _ _ _ (rw (h .ranged .compno1) at (c .before .before .before .cs-test .taken))) in (
       omega (arith, o .0),
       goes-on _ _ _ _ _ _ (then-listed _ _ _ _ _ t (c .before .ks .inv) (λ s g h. counted-long s g _ _ _ _ (t .long) h)) _
-          (λ s g h. outK s g _ _ _ _ (rw (count-is s g _ _ _ h _ _ _ (stands (c .before .before .before)) _ (c .before .before .count-at .ensures)) at (c .ks-test .left))),
+          (λ s g h. outK s g _ _ _ _ (rw (count-is s g _ _ _ h _ _ _ (stands (c .before .before .before)) _ (c .before .before .number-at .ensures)) at (c .ks-test .left))),
     )
 
 same-length : tie.Need-same-length Inv-ks μ-ks Inv-cs μ-cs
@@ -110,7 +110,7 @@ list-level-spec =
     Inv-cs
     μ-cs
     cs-holds
-    count-at-requires
+    number-at-requires
     ks-holds
     list-packet-requires
     add-k

@@ -41,7 +41,7 @@ read-here : (c : tie.After-is-free Inv-ks μ-ks Inv-cs μ-cs) (s : Sheet) (g : R
     Counted s g (a .counts .now) (a .w) (a .marks .now) → (t : Bool) → c .is-free .result ≡ t
     → (k < precincts s i (a .r)) × (eqb (getD (a .marks .now) (indexOf (s .st) (placeOf (a .l) (a .r) i k)) 0) 0 ≡ t))
 read-here c s g h t e =
-    let n = c .before .before .before .before .count-at .ensures in
+    let n = c .before .before .before .before .number-at .ensures in
     let i = c .before .before .ks-test .taken in
     let p = stands (c .before .before .before .before .before) in
     (below s g _ _ _ h _ _ _ p _ n _ i, mark-read s g _ _ _ h _ _ _ p _ n _ i _ _ _ (c .before .index .ensures) (c .is-free .ensures) e)
@@ -49,8 +49,8 @@ read-here c s g h t e =
 cs-holds : tie.Need-cs-holds Inv-ks μ-ks Inv-cs μ-cs
 cs-holds c = (c .before .pre .1, λ s g h. refl)
 
-count-at-requires : tie.Need-count-at-requires Inv-ks μ-ks Inv-cs μ-cs
-count-at-requires c κs = let p = c .before .before .before .pre .2 in held (p .0) (p .1 .0) _ _ _ (p .1 .1) _ _ _ (stands c)
+number-at-requires : tie.Need-number-at-requires Inv-ks μ-ks Inv-cs μ-cs
+number-at-requires c κs = let p = c .before .before .before .pre .2 in held (p .0) (p .1 .0) _ _ _ (p .1 .1) _ _ _ (stands c)
 
 ks-holds : tie.Need-ks-holds Inv-ks μ-ks Inv-cs μ-cs
 ks-holds c s g h = c .before .before .cs .inv .1 s g h ∙ ap (seek _ _) (inC s g _ _ _ _ (rw (h .ranged .compno1) at (c .before .cs-test .taken)))
@@ -58,12 +58,12 @@ ks-holds c s g h = c .before .before .cs .inv .1 s g h ∙ ap (seek _ _) (inC s 
 index-requires : tie.Need-index-requires Inv-ks μ-ks Inv-cs μ-cs
 index-requires c κs =
     let p = c .before .before .before .before .before .before .pre .2 in
-    mark-fits (p .0) (p .1 .0) _ _ _ (p .1 .1) _ _ _ (stands (c .before .before .before)) _ (c .before .before .count-at .ensures) _ (c .ks-test .taken)
+    mark-fits (p .0) (p .1 .0) _ _ _ (p .1 .1) _ _ _ (stands (c .before .before .before)) _ (c .before .before .number-at .ensures) _ (c .ks-test .taken)
 
 is-free-requires : tie.Need-is-free-requires Inv-ks μ-ks Inv-cs μ-cs
 is-free-requires c κs =
     let p = c .before .before .before .before .before .before .before .pre .2 in
-    rw (c .index .ensures) (mark-there (p .0) (p .1 .0) _ _ _ (p .1 .1) _ _ _ (stands (c .before .before .before .before)) _ (c .before .before .before .count-at .ensures) _ (c .before .ks-test .taken))
+    rw (c .index .ensures) (mark-there (p .0) (p .1 .0) _ _ _ (p .1 .1) _ _ _ (stands (c .before .before .before .before)) _ (c .before .before .before .number-at .ensures) _ (c .before .ks-test .taken))
 
 returns : tie.Need-returns Inv-ks μ-ks Inv-cs μ-cs
 returns c s g h =
@@ -92,7 +92,7 @@ cs-again c = (
   omega (arith, c .before .before .before .before .cs .inv .0),
   λ s g h.
       c .before .ks .inv s g h
-      ∙ ap (seek _ _) (outK s g _ _ _ _ (rw (count-is s g _ _ _ h _ _ _ (stands (c .before .before .before)) _ (c .before .before .count-at .ensures)) at (c .ks-test .left))),
+      ∙ ap (seek _ _) (outK s g _ _ _ _ (rw (count-is s g _ _ _ h _ _ _ (stands (c .before .before .before)) _ (c .before .before .number-at .ensures)) at (c .ks-test .left))),
 )
 
 returns-2 : tie.Need-returns-2 Inv-ks μ-ks Inv-cs μ-cs
@@ -108,7 +108,7 @@ search-level-spec =
     Inv-cs
     μ-cs
     cs-holds
-    count-at-requires
+    number-at-requires
     ks-holds
     index-requires
     is-free-requires

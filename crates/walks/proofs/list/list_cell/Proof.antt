@@ -5,18 +5,18 @@ use Rattle.packets.specs.Tile.{Sheet}
 use Rattle.packets.specs.Orders.{Range}
 use Rattle.walks.specs.Prepared.{cellOf}
 use Rattle.walks.specs.Running.{totalOf, total-none}
-use Rattle.walks.specs.Layers.{Celled, row-point, cell-layered, cell-left, cell-passed}
+use Rattle.walks.specs.Layers.{Celled, cell-layered, cell-left, cell-passed}
 use borrow.Author.Needs.{needs}
 use Rattle.walks.proofs.list.list_cell.Statement.{statement}
 use Rattle.walks.proofs.list.list_cell.Tie as tie
 
 -- what the cell answers, for every sheet that the listing is ready for
-cell-is : (c : tie.After-cell-in-row) (s : Sheet) (g : Range)
-    → (let a = c .before .before .before .args in Celled s g (now (a .prep)) (now (a .row)) (a .w) (now (a .marks)) (a .r) (a .c) (a .x) (a .y) → c .cell-in-row .result ≡ cellOf s (a .r) (a .c) (a .x) (a .y))
-cell-is c s g d = c .cell-in-row .ensures s _ (row-point s g _ _ _ _ _ _ _ _ d)
+cell-is : (c : tie.After-cell-from) (s : Sheet) (g : Range)
+    → (let a = c .before .before .before .args in Celled s g (now (a .prep)) (a .first) (a .w) (now (a .marks)) (a .r) (a .c) (a .x) (a .y) → c .cell-from .result ≡ cellOf s (a .r) (a .c) (a .x) (a .y))
+cell-is c s g d = c .cell-from .ensures s _ (d .point)
 
-cell-in-row-requires : tie.Need-cell-in-row-requires
-cell-in-row-requires c κs = let p = c .before .before .pre in (p .0, (_, row-point _ _ _ _ _ _ _ _ _ _ (p .1 .1)))
+cell-from-requires : tie.Need-cell-from-requires
+cell-from-requires c κs = let p = c .before .before .pre in (p .0, (_, p .1 .1 .point))
 
 enum-known-k : tie.Need-enum-known-k
 enum-known-k c = search needs
@@ -25,7 +25,7 @@ list-layers-requires : tie.Need-list-layers-requires
 list-layers-requires c κs =
     let p = c .before .before .before .before .before .before .before .before .pre in
     let d = p .1 .1 in
-    let cell = c .before .before .before .before .before .cell-in-row .result in
+    let cell = c .before .before .before .before .before .cell-from .result in
     let e = cell-is (c .before .before .before .before .before) _ _ d in
     let k = c .before .before .before .k .given .1 in
     (p .0, (p .1 .0, cell-layered _ _ _ _ _ (d .ready) _ _ _ _ (d .stands) cell e _ k, rw (cell-left _ _ _ _ _ (d .ready) _ _ _ _ (d .stands) cell e _ _ k) at (p .1 .2)))
@@ -41,7 +41,7 @@ same-length-2 c = search needs
 
 returns : tie.Need-returns
 returns c s g d =
-    let cell = c .before .before .before .before .before .before .before .before .before .before .cell-in-row .result in
+    let cell = c .before .before .before .before .before .before .before .before .before .before .cell-from .result in
     let e = cell-is (c .before .before .before .before .before .before .before .before .before .before) s g d in
     let k = c .before .before .before .before .before .before .before .before .k .given .1 in
     c .before .before .before .before .list-layers .ensures s g (cell-layered s g _ _ _ (d .ready) _ _ _ _ (d .stands) cell e _ k)
@@ -49,13 +49,13 @@ returns c s g d =
 
 returns-2 : tie.Need-returns-2
 returns-2 c s g d =
-    sym (ap (totalOf _ _ _ _) (cell-passed s g _ _ _ (d .ready) _ _ _ _ (d .stands) (c .before .before .cell-in-row .result) (cell-is (c .before .before) s g d) _ (c .enum-told .given .1)) ∙ total-none _ _ _ _)
+    sym (ap (totalOf _ _ _ _) (cell-passed s g _ _ _ (d .ready) _ _ _ _ (d .stands) (c .before .before .cell-from .result) (cell-is (c .before .before) s g d) _ (c .enum-told .given .1)) ∙ total-none _ _ _ _)
 
 pub list-cell-spec : {M : Type 1} → statement M
 list-cell-spec =
     tie.close
     (tie.spec
-    cell-in-row-requires
+    cell-from-requires
     enum-known-k
     list-layers-requires
     enum-told

@@ -73,21 +73,26 @@ cs-holds c = (omega arith, omega arith, first-listed _ _ _ _ _ _ (λ s g h. refl
 rs-holds : tie.Need-rs-holds Inv-rs μ-rs Inv-cs μ-cs
 rs-holds c = (omega arith, omega arith, first-listed _ _ _ _ _ _ (λ s g h. refl), nearest-enter (c .before .cs .inv .3))
 
-nearer-in-row-requires : tie.Need-nearer-in-row-requires Inv-rs μ-rs Inv-cs μ-cs
-nearer-in-row-requires c κs =
-    let p = c .before .before .before .before .before .before .before .pre in
-    (p .0, (_, point-part _ _ _ _ _ _ _ _ _ _ _ (p .1 .1 .point) (c .before .rs .inv .0) (c .rs-test .taken) (c .before .before .before .cs .inv .0) (c .before .before .cs-test .taken)))
+number-at-requires : tie.Need-number-at-requires Inv-rs μ-rs Inv-cs μ-cs
+number-at-requires c κs =
+    let k = c .before .before .before .before .before .before .before .pre .1 .1 .point .at .play in
+    (omega (arith, c .rs-test .taken, k .resolutions), omega (arith, c .before .before .cs-test .taken, k .components))
+
+nearer-from-requires : tie.Need-nearer-from-requires Inv-rs μ-rs Inv-cs μ-cs
+nearer-from-requires c κs =
+    let p = c .before .before .before .before .before .before .before .before .pre in
+    (p .0, (_, point-part _ _ _ _ _ _ _ _ _ _ _ _ (c .number-at .ensures) (p .1 .1 .point) (c .before .before .rs .inv .0) (c .before .rs-test .taken) (c .before .before .before .before .cs .inv .0) (c .before .before .before .cs-test .taken) .start))
 
 list-cell-requires : tie.Need-list-cell-requires Inv-rs μ-rs Inv-cs μ-cs
 list-cell-requires c κs =
-    let p = c .before .before .before .before .before .before .before .before .before .before .pre in
+    let p = c .before .before .before .before .before .before .before .before .before .before .before .pre in
     let d = p .1 .1 in
-    let t = at-rs (c .before .before .before) in
-    let rt = c .before .before .before .rs-test .taken in (
+    let t = at-rs (c .before .before .before .before) in
+    let rt = c .before .before .before .before .rs-test .taken in (
       p .0,
       (
         p .1 .0,
-        pointed-cell _ _ _ _ _ _ _ _ (pointed-long _ _ _ _ _ _ _ _ d _ (t .long)) _ _ (c .before .before .before .before .rs .inv .0) rt (c .before .before .before .before .before .before .cs .inv .0) (c .before .before .before .before .before .cs-test .taken),
+        pointed-cell _ _ _ _ _ _ _ _ (pointed-long _ _ _ _ _ _ _ _ d _ (t .long)) _ _ _ (c .before .before .before .number-at .ensures) (c .before .before .before .before .before .rs .inv .0) rt (c .before .before .before .before .before .before .before .cs .inv .0) (c .before .before .before .before .before .before .cs-test .taken),
         few-part _ _ _ _ _ _ t _ _ _ _ d (inR _ _ _ _ _ (d .ready) _ _ _ _ _ rt) (p .1 .2),
       ),
     )
@@ -100,16 +105,17 @@ rs-less c = search needs
 
 rs-again : tie.Need-rs-again Inv-rs μ-rs Inv-cs μ-cs
 rs-again c =
-    let i = c .before .before .before .before .before .before .before .before .before .rs .inv in
-    let o = c .before .before .before .before .before .before .before .before .before .before .before .cs in
-    let rt = c .before .before .before .before .before .before .before .before .rs-test .taken in
-    let ct = c .before .before .before .before .before .before .before .before .before .before .cs-test .taken in
-    let p = c .before .before .before .before .before .before .before .before .before .before .before .before .before .before .before .pre in (
+    let i = c .before .before .before .before .before .before .before .before .before .before .rs .inv in
+    let o = c .before .before .before .before .before .before .before .before .before .before .before .before .cs in
+    let rt = c .before .before .before .before .before .before .before .before .before .rs-test .taken in
+    let ct = c .before .before .before .before .before .before .before .before .before .before .before .cs-test .taken in
+    let first = c .before .before .before .before .before .before .before .before .number-at .ensures in
+    let p = c .before .before .before .before .before .before .before .before .before .before .before .before .before .before .before .before .pre in (
       omega (arith, i .0),
       omega (arith, rt),
       part-listed _ _ _ _ _ _ (i .2) (cellFrom _ _ _ _ _) _ (λ s g h. inR s g _ _ _ (h .ready) _ _ _ _ _ rt) (c .before .before .before .marks .given) (c .before .output .given)
-          (λ s g h. c .before .before .before .before .list-cell .ensures s g (pointed-cell s g _ _ _ _ _ _ (pointed-long s g _ _ _ _ _ _ h _ (i .2 .long)) _ _ (i .0) rt (o .inv .0) ct)),
-      nearest-turn _ (i .3) (i .0) (p .0) (p .1 .1 .point) (λ s h. c .before .before .before .before .before .before .before .nearer-in-row .ensures s _ (point-part _ _ _ _ _ _ _ _ _ _ _ h (i .0) rt (o .inv .0) ct)),
+          (λ s g h. c .before .before .before .before .list-cell .ensures s g (pointed-cell s g _ _ _ _ _ _ (pointed-long s g _ _ _ _ _ _ h _ (i .2 .long)) _ _ _ first (i .0) rt (o .inv .0) ct)),
+      nearest-turn _ (i .3) (i .0) (p .0) (p .1 .1 .point) (λ s h. c .before .before .before .before .before .before .before .nearer-from .ensures s _ (point-part _ _ _ _ _ _ _ _ _ _ _ _ first h (i .0) rt (o .inv .0) ct .start)),
     )
 
 add-c : tie.Need-add-c Inv-rs μ-rs Inv-cs μ-cs
@@ -131,8 +137,8 @@ cs-again c =
       nearest-leave (i .3) (o .0) (i .0) (i .1) rl,
     )
 
-add-t22 : tie.Need-add-t22 Inv-rs μ-rs Inv-cs μ-cs
-add-t22 c = omega (arith, c .before .cs .inv .3 .within)
+add-t23 : tie.Need-add-t23 Inv-rs μ-rs Inv-cs μ-cs
+add-t23 c = omega (arith, c .before .cs .inv .3 .within)
 
 same-length : tie.Need-same-length Inv-rs μ-rs Inv-cs μ-cs
 same-length c = c .before .cs .inv .2 .long
@@ -159,7 +165,8 @@ list-point-spec =
     sub-best
     cs-holds
     rs-holds
-    nearer-in-row-requires
+    number-at-requires
+    nearer-from-requires
     list-cell-requires
     add-r
     rs-less
@@ -167,7 +174,7 @@ list-point-spec =
     add-c
     cs-less
     cs-again
-    add-t22
+    add-t23
     same-length
     same-length-2
     returns)

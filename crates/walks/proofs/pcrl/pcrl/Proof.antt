@@ -12,6 +12,7 @@ use Rattle.packets.specs.Orders.{Range}
 use Rattle.packets.specs.Strided.{everything}
 use Rattle.packets.specs.InPlay.{nextX, nextY}
 use Rattle.walks.specs.Prepared.{pointOf}
+use Rattle.walks.specs.InRow.{AtRow}
 use Rattle.walks.specs.Walk.{answerOf, Ready}
 use Rattle.walks.specs.Turns.{InTile, in-play}
 use Rattle.walks.specs.Going.{Alike, part-searched}
@@ -55,12 +56,22 @@ searched c =
     part-searched _ _ _ _ (point _ _ _ _ _) (λ s g. leftX w y (nextX s g everything (pointOf 0 0 0 y) (i .x)) (w .compno0) (w .resno0) 0 s g) (c .search-point .result) (i .inv .3)
     (λ s g h. (inX s g _ _ _ h _ _ _ _ _ (t .top) (t .bottom) (t .left) (t .right), c .search-point .ensures s g h))
 
+-- the row of what is in play, for every sheet that the walk is ready for
+at-row : (c : tie.In-ys Inv-xs μ-xs Inv-ys μ-ys) (s : Sheet) (g : Range)
+    → (let a = c .before .before .before .args in Ready s g (now (a .prep)) (a .w) (now (a .marks)) → AtRow s (now (a .prep)) (a .w .resno0) (a .w .resno1) (a .w .compno0) (a .w .compno1) (c .before .ys .y))
+at-row c s g h =
+    record {
+      play = in-play s g _ _ _ h _ _ _ _ (omega arith) (omega arith) (omega arith) (omega arith);
+      top = rw (← (h .ranged .ty0)) (c .before .ys .inv .0);
+      bottom = rw (← (h .ranged .ty1)) (c .ys-test .taken);
+    }
+
 -- the next column and row; and they grow
 column-here : (c : tie.After-next-column Inv-xs μ-xs Inv-ys μ-ys) (s : Sheet) (g : Range)
     → (let a = c .before .before .before .before .before .before .before .before .before .args in
     let x = c .before .before .before .before .before .xs .x in
     Ready s g (now (a .prep)) (a .w) (now (a .marks)) → (c .next-column .result ≡ nextX s g everything (pointOf 0 0 0 (c .before .before .before .before .before .before .before .ys .y)) x) × (x < c .next-column .result))
-column-here c s g h = column-is s g _ _ _ h _ _ _ (c .next-column .ensures s (in-play s g _ _ _ h _ _ _ _ (omega arith) (omega arith) (omega arith) (omega arith)))
+column-here c s g h = column-is s g _ _ _ h _ _ _ (c .next-column .ensures s (at-row (c .before .before .before .before .before .before) s g h))
 
 row-here : (c : tie.After-next-row Inv-xs μ-xs Inv-ys μ-ys) (s : Sheet) (g : Range)
     → (let a = c .before .before .before .before .before .before .args in
@@ -89,13 +100,7 @@ enum-told : tie.Need-enum-told Inv-xs μ-xs Inv-ys μ-ys
 enum-told c = search needs
 
 next-column-requires : tie.Need-next-column-requires Inv-xs μ-xs Inv-ys μ-ys
-next-column-requires c κs =
-    let p = c .before .before .before .before .before .before .before .before .pre .0 in
-    let h = p .1 .1 in (
-      c .before .before .before .xs-test .taken,
-      omega (arith, c .before .before .before .before .before .ys-test .taken, h .ranged .ty1, h .play .ends-y),
-      (p .0, in-play _ _ _ _ _ h _ _ _ _ (omega arith) (omega arith) (omega arith) (omega arith)),
-    )
+next-column-requires c κs = let p = c .before .before .before .before .before .before .before .before .pre .0 in (c .before .before .before .xs-test .taken, (p .0, at-row (c .before .before .before .before .before) (p .0) (p .1 .0) (p .1 .1)))
 
 xs-less : tie.Need-xs-less Inv-xs μ-xs Inv-ys μ-ys
 xs-less c = let p = c .before .before .before .before .before .before .before .before .before .pre .0 in omega (arith, c .before .before .before .before .xs-test .taken, column-here c (p .0) (p .1 .0) (p .1 .1) .1)

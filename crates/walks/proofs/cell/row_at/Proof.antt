@@ -7,8 +7,8 @@ use mathlib.Core.Path.{sym, _∙_}
 use denote.Ref.{now}
 use native.Mathlib.Omega.{arith}
 use borrow.Author.Needs.{needs}
-use Rattle.walks.proofs.row.row_at.Statement.{statement}
-use Rattle.walks.proofs.row.row_at.Tie as tie
+use Rattle.walks.proofs.cell.row_at.Statement.{statement}
+use Rattle.walks.proofs.cell.row_at.Tie as tie
 
 mul-at : tie.Need-mul-at
 mul-at c = search needs
