@@ -7,7 +7,7 @@ C_FLAGS = -std=c11 -Wall -Wextra -Wpedantic -Werror -O2 -Iinclude
 CRATES := crates.txt $(shell find crates -type f ! -path '*/must-fail/*' ! -path '*/mutants/*')
 LISTING = target/bin/listing
 ARCHIVE = target/staticlib/libhost.a
-NATIVE = target/native/libhost.a
+NATIVE = target/native/libhost.a target/native/libstepping.a
 
 # Every proof, must-fail edit and test, from nothing.
 test:
@@ -21,7 +21,7 @@ check:
 mutants:
 	tools/mutants
 
-# The Rust, unchanged from ../shared/docs/src, beside a model written from document 01 and our archive: optimised, then with overflow checks.
+# The Rust, unchanged from ../shared/docs/src, beside a model written from document 01 and our archives: optimised, then with overflow checks.
 differential: $(NATIVE)
 	tools/bench differential --sheets 1000000 --bounds 10000000
 	tools/bench --checked differential --sheets 100000 --bounds 1000000
@@ -30,7 +30,7 @@ differential: $(NATIVE)
 fuzz: $(NATIVE)
 	tools/bench fuzz
 
-# Time and instructions of a whole run beside the Rust's; then sheets with few packets and a huge grid, and a search for more.
+# Time and instructions of a whole run beside the Rust's, and time of a single step; then sheets with few packets and a huge grid, and a search for more.
 bench: $(NATIVE)
 	tools/bench bench
 	tools/bench instructions
@@ -49,7 +49,7 @@ list: $(LISTING)
 # The archive for C, target/staticlib/libhost.a.
 archive: $(ARCHIVE)
 
-# The archive that the bench links, target/native/libhost.a: on Arm it has code for Arm.
+# The archives that the bench links, the host's and that of the run by single steps: on Arm they have code for Arm.
 native: $(NATIVE)
 
 # The C host of examples/host, as target/c/host.
@@ -64,15 +64,15 @@ install: $(ARCHIVE)
 
 # rt tells by contents what to prove again, and leaves alone what is as it was: hence the touch.
 $(LISTING): $(CRATES)
-	@rt check listing >&2
+	@tools/prove check listing
 	@touch $@
 
 $(ARCHIVE): $(CRATES)
-	@rt staticlib host >&2
+	@tools/prove staticlib host
 	@touch $@
 
-$(NATIVE): tools/native-archive $(CRATES)
-	@tools/native-archive >&2
+target/native/lib%.a: tools/native-archive $(CRATES)
+	@tools/native-archive $*
 
 target/c/host: examples/host/host.c include/bonxigarth.h $(ARCHIVE)
 	@mkdir -p target/c

@@ -1,4 +1,5 @@
-//! Finds openjp2's sources and names them to the compiler, and links our archive when asked to.
+//! Finds openjp2's sources and names them to the compiler, and links our archive when asked to. Where that has the run by single steps,
+//! the program is built with `cfg(stepped)`.
 
 use std::env;
 use std::fs;
@@ -8,12 +9,15 @@ use std::process::exit;
 /// The files of openjp2 that are compiled unchanged.
 const FILES: [&str; 7] = ["c_api_types", "consts", "image", "malloc", "math", "pi", "types"];
 
+/// The export that makes a whole run by single steps.
+const STEPPED: &str = "bonxigarth_stepped_run";
+
 fn main() {
     let bench = PathBuf::from(env::var("CARGO_MANIFEST_DIR").unwrap());
     let repository = bench.parent().unwrap().to_path_buf();
     name_sources(&repository);
     if env::var_os("CARGO_FEATURE_OURS").is_some() {
-        link_archive(&repository);
+        link_archives(&repository);
     }
 }
 
@@ -38,14 +42,33 @@ fn name_sources(repository: &Path) {
     fs::write(target, modules).expect("cannot write the list of modules");
 }
 
-/// Tells the linker of the static archive with `bonxigarth_whole_run` and `bonxigarth_tile_bounds`.
-fn link_archive(repository: &Path) {
+/// Links the archive with our C exports, and the one with the run by single steps if that is another.
+fn link_archives(repository: &Path) {
     println!("cargo:rerun-if-env-changed=BONXIGARTH_LIB");
+    println!("cargo:rerun-if-env-changed=BONXIGARTH_STEPPED_LIB");
     let archive = from_environment("BONXIGARTH_LIB", &repository.join("target/native/libhost.a"));
+    let stepped = from_environment("BONXIGARTH_STEPPED_LIB", &archive);
+    link(&archive);
+    if stepped != archive {
+        link(&stepped);
+    }
+    if names(&stepped, STEPPED) {
+        println!("cargo:rustc-cfg=stepped");
+    }
+}
+
+/// Whether an archive has a symbol of this name.
+fn names(archive: &Path, symbol: &str) -> bool {
+    let bytes = fs::read(archive).expect("cannot read the archive");
+    bytes.windows(symbol.len()).any(|window| window == symbol.as_bytes())
+}
+
+/// Tells the linker of a static archive.
+fn link(archive: &Path) {
     let Ok(archive) = archive.canonicalize() else {
         fail(&format!(
             "our archive is not there: {} is missing.\n\
-             Build it (make native) or give its path as BONXIGARTH_LIB.",
+             Build it (make native) or give its path as BONXIGARTH_LIB (or BONXIGARTH_STEPPED_LIB).",
             archive.display()
         ));
     };

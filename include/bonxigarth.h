@@ -1,10 +1,10 @@
 /* bonxigarth.h: the packets of a JPEG 2000 tile in the order of its progressions, what setup reports of it, and the bounds of a tile.
  *
- * The library behind this header is proved to do what stands here. For all functions:
+ * The library of this header is proved to do what stands here; docs/TRUST.md says what that rests on. For all functions:
  *
  * - Every call ends. It allocates nothing and keeps nothing between calls, so threads may call at the same time, each with buffers of its own.
- *   (Measured and not proved: a call takes less than 24 kB of stack.)
- * - A buffer is a pointer and a length in bytes. The pointer is not null, even where the length is 0, and that many bytes behind it are
+ *   (Tested and not proved: a call takes less than 48 kB of stack.)
+ * - A buffer is a pointer and a length in bytes. The pointer is not null, even where the length is 0, and that many bytes from it on are
  *   valid. The buffers of a call do not overlap. Nothing outside them is read or written.
  * - Words in buffers are 32 bits, big-endian, and need no alignment.
  * - A negative answer is a refusal, and then nothing lent has changed. */
@@ -19,7 +19,7 @@ extern "C" {
 #endif
 
 /* Why a call is refused. -1 is tested first; then the records are read in order, and the first bad one is -2 or -3; then come -4 to -8, in this order.
- * Setup tests -8 before all else, tile bounds -10 before -8. */
+ * Tile bounds test -10 before -8. */
 enum {
     BONXIGARTH_BAD_LENGTH = -1,    /* the sheet is empty, not a multiple of 32 bytes, or over 577 records */
     BONXIGARTH_BAD_SHAPE = -2,     /* a kind is wrong at its place, an unnamed word is not 0, records are missing or left over */
@@ -50,7 +50,7 @@ enum {
  *            1 tx0 ty0 tx1 ty1 layers components progressions     the tile: first
  *            2 dx dy resolutions                                  a component, followed by its resolutions, lowest first
  *            3 pdx pdy                                            a resolution
- *            4 prg resno0 compno0 layno1 resno1 compno1           a progression: behind the last component, as many as word 8 of the tile says
+ *            4 prg resno0 compno0 layno1 resno1 compno1           a progression: after the last component, as many as word 8 of the tile says
  *            5 prg                                                or one for the whole tile
  *          It is only read.
  * table    working space, 16 bytes for each resolution: pdx, pdy and the width and height in precincts are written there, component after component
@@ -73,7 +73,7 @@ int32_t bonxigarth_whole_run(const uint8_t *sheet, size_t sheet_len,
  *          steps dx * 2^(pdx + level) and dy * 2^(pdy + level), of those that fit 32 bits, or 0x7fffffff if none is smaller.
  *          Bytes beyond the first 16 stay as they are
  *
- * Answers 0; or -8; or -1 to -7. */
+ * Answers 0; or -1 to -8. */
 int32_t bonxigarth_setup(const uint8_t *sheet, size_t sheet_len,
                          uint8_t *table, size_t table_len,
                          uint8_t *marks, size_t marks_len,

@@ -1,7 +1,8 @@
 /* guards: what the functions do with lent buffers that are short, exactly long enough, and longer.
  *
- * Every buffer is lent twice: with an inaccessible page right behind its last byte, then with one right before its first. Its other side is watched by
+ * Every buffer is lent twice: with an inaccessible page right after its last byte, then with one right before its first. Its other side is watched by
  * bytes of a pattern. So any access outside is found: by a signal, which ends this program, or by a byte that has changed.
+ * Every call on a sheet is made on a small stack, with an inaccessible page below it: a call that takes more ends this program, too.
  * The last line is 'N passed, M failed'. */
 #define _GNU_SOURCE
 #include <signal.h>
@@ -10,12 +11,16 @@
 #include <string.h>
 #include <sys/mman.h>
 #include <sys/wait.h>
+#include <ucontext.h>
 #include <unistd.h>
 
 #include <bonxigarth.h>
 
 /* a multiple of every machine's page size */
 #define PAGE ((size_t)65536)
+
+/* the stack that the header allows a call */
+#define STACK ((size_t)49152)
 
 enum { WATCHED = 0x5a };
 
@@ -33,7 +38,7 @@ static void check(int holds, const char *call, const char *what)
 
 /* A LENT BUFFER: bytes within pages that may be used, between pages that may not */
 
-enum side { PAGE_BEHIND, PAGE_BEFORE };
+enum side { PAGE_AFTER, PAGE_BEFORE };
 
 struct lent {
     uint8_t *bytes;
@@ -105,8 +110,8 @@ static void stopped(int number)
 /* A page around a buffer does stop an access: a child that reads there gets a signal, and ends with its number. */
 static void check_pages(void)
 {
-    struct lent behind = lend(100, PAGE_BEHIND), ahead = lend(100, PAGE_BEFORE);
-    const volatile uint8_t *outside[2] = {behind.bytes + 100, ahead.bytes - 1};
+    struct lent ended = lend(100, PAGE_AFTER), started = lend(100, PAGE_BEFORE);
+    const volatile uint8_t *outside[2] = {ended.bytes + 100, started.bytes - 1};
 
     for (int i = 0; i < 2; i++) {
         int status = 0;
@@ -117,10 +122,10 @@ static void check_pages(void)
             _exit(*outside[i] & 0);
         }
         check(child > 0 && waitpid(child, &status, 0) == child && WIFEXITED(status) && WEXITSTATUS(status) == SIGSEGV,
-              "a read", i == 0 ? "right behind a buffer" : "right before a buffer");
+              "a read", i == 0 ? "right after a buffer" : "right before a buffer");
     }
-    give_back(&behind);
-    give_back(&ahead);
+    give_back(&ended);
+    give_back(&started);
 }
 
 /* A SHEET, and what a call on it is to leave */
@@ -155,6 +160,43 @@ static void add(struct sheet *sheet, const uint32_t words[8])
 
 #define ADD(sheet, ...) add((sheet), (const uint32_t[8]){__VA_ARGS__})
 
+/* A CALL ON A SMALL STACK */
+
+static struct {
+    on_sheet *function;
+    const struct lent *records, *table, *marks, *output;
+    int32_t answer;
+} called;
+
+static void make_call(void)
+{
+    called.answer = called.function(called.records->bytes, called.records->length, called.table->bytes, called.table->length,
+                                    called.marks->bytes, called.marks->length, called.output->bytes, called.output->length);
+}
+
+static int32_t call_on_small_stack(on_sheet *function, const struct lent *records, const struct lent *table,
+                                   const struct lent *marks, const struct lent *output)
+{
+    struct lent stack = lend(STACK, PAGE_BEFORE);
+    ucontext_t here, there;
+
+    called.function = function;
+    called.records = records;
+    called.table = table;
+    called.marks = marks;
+    called.output = output;
+    if (getcontext(&there) != 0)
+        or_stop(NULL);
+    there.uc_stack.ss_sp = stack.bytes;
+    there.uc_stack.ss_size = stack.length;
+    there.uc_link = &here;
+    makecontext(&there, make_call, 0);
+    if (swapcontext(&here, &there) != 0)
+        or_stop(NULL);
+    give_back(&stack);
+    return called.answer;
+}
+
 /* How many bytes longer than needed a call lends, each; negative for shorter. */
 struct lengths {
     const char *name;
@@ -179,8 +221,7 @@ static void run(const struct sheet *sheet, const struct result *right, const str
     note(&table);
     note(&marks);
     note(&output);
-    answer = right->call(records.bytes, records.length, table.bytes, table.length,
-                         marks.bytes, marks.length, output.bytes, output.length);
+    answer = call_on_small_stack(right->call, &records, &table, &marks, &output);
     if (answer != due)
         printf("guards: %s: answered %d, not %d\n", more->name, (int)answer, (int)due);
     check(answer == due, more->name, "the answer");
@@ -203,7 +244,7 @@ static void run(const struct sheet *sheet, const struct result *right, const str
 static void run_all(const struct sheet *sheet, const struct result *right, const struct lengths *cases, size_t count)
 {
     for (size_t i = 0; i < count; i++) {
-        run(sheet, right, &cases[i], PAGE_BEHIND);
+        run(sheet, right, &cases[i], PAGE_AFTER);
         run(sheet, right, &cases[i], PAGE_BEFORE);
     }
 }
@@ -341,7 +382,7 @@ static void check_longest_sheet(void)
     run_all(&sheet, &right, cases, COUNT(cases));
 }
 
-/* Setup: the marks are cleared and the reports written; reports that are too short come before all else. */
+/* Setup: the marks are cleared and the reports written; reports that are too short come after all else. */
 static void check_setup(void)
 {
     static const struct lengths cases[] = {
@@ -354,7 +395,8 @@ static void check_setup(void)
         {"setup, table and marks short", 0, -1, -1, 0, BONXIGARTH_SHORT_MARKS},
         {"setup, reports a byte short", 0, 0, 0, -1, BONXIGARTH_SHORT_OUTPUT},
         {"setup, no reports", 0, 0, 0, -16, BONXIGARTH_SHORT_OUTPUT},
-        {"setup, all short", -1, -1, -1, -1, BONXIGARTH_SHORT_OUTPUT},
+        {"setup, table and reports short", 0, -1, 0, -1, BONXIGARTH_SHORT_TABLE},
+        {"setup, all short", -1, -1, -1, -1, BONXIGARTH_BAD_LENGTH},
     };
     static const uint32_t table_words[8] = {4, 3, 2, 2, 5, 5, 2, 1}, report_words[4] = {4, 2, 32, 16};
     static const uint8_t marks[16];
@@ -397,7 +439,7 @@ static void check_bounds(void)
 
     for (size_t i = 0; i < 2 * COUNT(cases); i++) {
         size_t k = i / 2;
-        struct lent output = lend(cases[k].length, i % 2 == 0 ? PAGE_BEHIND : PAGE_BEFORE);
+        struct lent output = lend(cases[k].length, i % 2 == 0 ? PAGE_AFTER : PAGE_BEFORE);
         int32_t answer;
 
         note(&output);

@@ -102,6 +102,12 @@ def precincts(r0, r1, pd):
     return 0 if r1 <= r0 else ceil(r1, 2**pd) - r0 // 2**pd
 
 
+# Ranges and orders: columns count from floor(r0/2^pd), on an empty axis too. No number reaches 2^64.
+def columns(r0, r1, pd):
+    size = 2**min(pd, 64)
+    return words((r0 // size, 0 if r1 <= r0 else ceil(r1, size) - r0 // size))
+
+
 # Tile bounds, one axis: from the raised start to the smaller end; sum and product wrap, the end's sum saturates.
 def side(i0, i1, origin, p, size):
     start = (origin + p * size) % W32
@@ -137,6 +143,7 @@ def lines():
         yield "resolution_bound", (a, b), ceildivpow2(a, b)
     for r0, r1, pd in SPANS:
         yield "precincts", (r0, r1, pd), precincts(r0, r1, pd)
+        yield "columns", (r0, r1, pd), columns(r0, r1, pd)
     for image, origin, size, tiles, numbers in TILES:
         for n in numbers:
             given = (*image, "of", *origin, *size, "by", *tiles, "at", n)

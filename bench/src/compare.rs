@@ -33,6 +33,8 @@ pub struct Tally {
     pub sparse: u64,
     /// Sheets whose every grid point was tested, beside the candidates.
     pub every_point: u64,
+    /// Sheets run by single steps, too.
+    pub stepped: u64,
     /// Refused sheets by number.
     pub refused: BTreeMap<i32, u64>,
 }
@@ -55,7 +57,10 @@ pub fn sheet(bytes: &[u8], tally: &mut Tally) -> Result<(), String> {
         }
     }
     #[cfg(feature = "ours")]
-    lent::sheet(bytes, &expected)?;
+    {
+        tally.stepped += lent::is_stepped(&expected) as u64;
+        lent::sheet(bytes, &expected)?;
+    }
     Ok(())
 }
 

@@ -1,5 +1,5 @@
 //! The oracle: the packet iterators of the crate openjp2, compiled unchanged from a folder outside this
-//! repository (`OPENJP2_SRC`, see build.rs), shims for what is not given, and a safe door.
+//! repository (`OPENJP2_SRC`, see build.rs), shims for what is not given, and safe functions to drive it.
 
 extern crate alloc;
 
@@ -11,7 +11,7 @@ include!(concat!(env!("OUT_DIR"), "/openjp2.rs"));
 mod event;
 #[path = "shims/function_list.rs"]
 mod function_list;
-#[allow(dead_code, non_camel_case_types)]
+#[allow(dead_code, non_camel_case_types, clippy::upper_case_acronyms)]
 #[path = "shims/j2k.rs"]
 mod j2k;
 #[allow(unused_imports)]

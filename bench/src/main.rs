@@ -25,7 +25,7 @@ bench bench [--rounds N]
 bench instructions
 bench slow [--limit SECONDS] [--search N] [--seed S]
 bench vectors DIR
-bench show [--rust] [--packets N] < WORDS
+bench show [--rust] [--again] [--packets N] < WORDS
 bench findings";
 
 fn main() -> ExitCode {

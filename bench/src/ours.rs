@@ -1,4 +1,4 @@
-//! Our C exports behind a safe door: slices in, `Result` out.
+//! Our C exports as safe functions: slices in, `Result` out.
 
 use oracle::bounds::Grid;
 
@@ -9,6 +9,18 @@ pub struct Refusal(pub i32);
 mod exports {
     extern "C" {
         pub fn bonxigarth_whole_run(
+            sheet: *const u8,
+            sheet_len: usize,
+            table: *mut u8,
+            table_len: usize,
+            marks: *mut u8,
+            marks_len: usize,
+            output: *mut u8,
+            output_len: usize,
+        ) -> i32;
+
+        #[cfg(stepped)]
+        pub fn bonxigarth_stepped_run(
             sheet: *const u8,
             sheet_len: usize,
             table: *mut u8,
@@ -67,6 +79,9 @@ fn call(export: OnSheet, sheet: &[u8], table: &mut [u8], marks: &mut [u8], outpu
     }
 }
 
+/// A run of a sheet that is lent a table, marks and an output.
+pub type Run = fn(&[u8], &mut [u8], &mut [u8], &mut [u8]) -> Result<usize, Refusal>;
+
 /// Runs a whole sheet and answers the number of packets written to `output`.
 pub fn whole_run(
     sheet: &[u8],
@@ -74,8 +89,18 @@ pub fn whole_run(
     marks: &mut [u8],
     output: &mut [u8],
 ) -> Result<usize, Refusal> {
-    let answer = call(exports::bonxigarth_whole_run, sheet, table, marks, output);
-    usize::try_from(answer).map_err(|_| Refusal(answer))
+    counted(call(exports::bonxigarth_whole_run, sheet, table, marks, output))
+}
+
+/// The same, made by setup and single steps: every progression opened, and stepped until it ends.
+#[cfg(stepped)]
+pub fn stepped_run(
+    sheet: &[u8],
+    table: &mut [u8],
+    marks: &mut [u8],
+    output: &mut [u8],
+) -> Result<usize, Refusal> {
+    counted(call(exports::bonxigarth_stepped_run, sheet, table, marks, output))
 }
 
 /// Sets a sheet up and writes what setup reports, big-endian, to the first 16 bytes of `reports`.
@@ -105,6 +130,10 @@ pub fn tile_bounds(grid: &Grid, output: &mut [u8]) -> Result<(), Refusal> {
         )
     };
     done(answer)
+}
+
+fn counted(answer: i32) -> Result<usize, Refusal> {
+    usize::try_from(answer).map_err(|_| Refusal(answer))
 }
 
 fn done(answer: i32) -> Result<(), Refusal> {

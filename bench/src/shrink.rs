@@ -33,7 +33,7 @@ fn smaller(bytes: &[u8]) -> Vec<Vec<u8>> {
         Ok(sheet) => candidates.extend(without_a_part(&sheet).iter().map(Sheet::bytes)),
         Err(_) => candidates.extend(without_a_record(bytes)),
     }
-    if bytes.len() % 32 == 0 {
+    if bytes.len().is_multiple_of(32) {
         candidates.extend(with_a_smaller_word(&records_of(bytes)).iter().map(|records| bytes_of(records)));
     }
     candidates

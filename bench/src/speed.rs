@@ -59,11 +59,23 @@ pub fn rust(sheet: &Sheet) -> Runner {
 /// Our whole run on the sheet's bytes.
 #[cfg(feature = "ours")]
 pub fn ours(sheet: &Sheet) -> Runner {
+    lent(sheet, ours::whole_run)
+}
+
+/// A run of ours on the sheet's bytes, in buffers that are large enough for any.
+#[cfg(feature = "ours")]
+fn lent(sheet: &Sheet, run: ours::Run) -> Runner {
     let bytes = sheet.bytes();
     let mut table = vec![0; 16 * 16 * 33];
     let mut marks = vec![0; 65_536];
     let mut output = vec![0; 16 * 65_536];
-    Box::new(move || ours::whole_run(&bytes, &mut table, &mut marks, &mut output).unwrap_or(usize::MAX))
+    Box::new(move || run(&bytes, &mut table, &mut marks, &mut output).unwrap_or(usize::MAX))
+}
+
+/// Our run by single steps on the sheet's bytes.
+#[cfg(stepped)]
+pub fn stepped(sheet: &Sheet) -> Runner {
+    lent(sheet, ours::stepped_run)
 }
 
 /// The Rust, and ours if it is linked.

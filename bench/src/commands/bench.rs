@@ -37,6 +37,24 @@ pub fn run(arguments: &mut Arguments) -> Result<(), String> {
     let (count, times) = measure(bounds_runners(), rounds)?;
     let each = times.iter().map(|time| time / count as f64).collect::<Vec<_>>();
     println!("| tile bounds, one of {count} | | {} |", columns(&each));
+    #[cfg(stepped)]
+    steps(rounds)?;
+    Ok(())
+}
+
+/// Single steps, each with its test of soundness, beside the Rust's `opj_pi_next`: on the usual sheet, of 18 resolutions. Setup, or create and
+/// destroy, is among the time.
+#[cfg(stepped)]
+fn steps(rounds: u64) -> Result<(), String> {
+    println!("\n| Order | Steps | Rust, ns a step | ours, ns a step | ratio |\n|---|---|---|---|---|");
+    for (prg, name) in ORDERS.iter().enumerate() {
+        let sheet = speed::usual(prg as i32, 6);
+        let (count, times) = measure(vec![speed::rust(&sheet), speed::stepped(&sheet)], rounds)?;
+        // a progression ends with a step that finds nothing
+        let steps = count + sheet.progressions.count();
+        let each = times.iter().map(|time| time / steps as f64).collect::<Vec<_>>();
+        println!("| {name} | {steps} | {} |", columns(&each));
+    }
     Ok(())
 }
 
@@ -86,7 +104,7 @@ fn columns(numbers: &[f64]) -> String {
 fn bounds_runners() -> Vec<Runner> {
     let taken = |grid: &Grid| model::bounds::tile_bounds(grid).is_ok();
     let grids: Vec<Grid> = (0..).map(|place| generate::grid(1, place)).filter(taken).take(1000).collect();
-    let mut asker = Asker::new();
+    let mut asker = Asker::default();
     vec![
         Box::new({
             let grids = grids.clone();

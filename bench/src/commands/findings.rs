@@ -17,9 +17,11 @@ fn sheets() -> Vec<(&'static str, String)> {
     let onward = |prg: u32| format!("1 T-1 0 T 2 1 1 1, 2 1 1 1, 3 1, 5 {prg}");
     let upward = |prg: u32| format!("1 0 T-1 0 T 1 1 1, 2 1 1 1, 3 1 1, 5 {prg}");
     let crossing = |prg: u32| format!("1 0 0 4 1 1 2 1, 2 2 1 1, 3, 2 3 1 1, 3, 5 {prg}");
+    let ended = "1 0 0 64 32 2 1 1, 2 1 1 2, 3 4 4, 3 5 5, 4 0 0 0 0 2 1";
     let component = "2 128 1 1, 3 15";
     let astray = format!("1 4290772992 0 4290772993 1024 1 2 1, {component}, {component}, 4 2 0 1 1 1 2");
     vec![
+        ("a call after the first 0 marks again (P-k)", ended.into()),
         ("a wrapped advance loses packets, order 2", onward(2)),
         ("a wrapped advance loses packets, order 3", onward(3)),
         ("a wrapped advance loses packets, order 4", onward(4)),
@@ -47,7 +49,7 @@ pub fn run(arguments: &mut Arguments) -> Result<(), String> {
     println!("The Rust's build: {}. T = 4294967295.\n", build());
     for (title, words) in sheets() {
         println!("{title}: {words}");
-        match ask(&["show", "--rust"], &words)? {
+        match ask(&["show", "--rust", "--again"], &words)? {
             Ended::Answered { output, time } => println!("{output}in {} ms", time.as_millis()),
             Ended::Failed(told) => println!("failed: {told}"),
             Ended::TooLong => {

@@ -11,6 +11,7 @@ use crate::model;
 
 pub fn run(arguments: &mut Arguments) -> Result<(), String> {
     let even_outside = arguments.flag("--rust");
+    let once_more = arguments.flag("--again");
     let most_packets = arguments.number("--packets", u64::MAX)?;
     arguments.finish()?;
     let text = read_to_string(std::io::stdin()).map_err(|error| error.to_string())?;
@@ -32,6 +33,9 @@ pub fn run(arguments: &mut Arguments) -> Result<(), String> {
         let rust = driver::run_to(&answer.sheet, most_packets as usize);
         tell("Rust", &rust.packets, &rust.table);
         println!("Rust: ending {:?}, last message {:?}", rust.ending, rust.message);
+    }
+    if once_more {
+        println!("Rust: called once more after the first 0: {:?}", driver::called_after_0(&answer.sheet));
     }
     Ok(())
 }

@@ -10,6 +10,9 @@ use crate::model::{Answer, Lent};
 use crate::ours::{self, Refusal};
 use crate::random::Random;
 
+/// The most steps times resolutions for which a run is made by single steps, too.
+const STEPPED: usize = 5_000;
+
 /// Guard bytes on either side of a buffer.
 const GUARD: usize = 40;
 
@@ -63,24 +66,40 @@ pub fn other_lengths(random: &mut Random, needs: Lent) -> Lent {
     Lent { table: around(needs.table), marks: around(needs.marks), output: around(needs.output) }
 }
 
-/// A whole run with these lengths lent.
+/// A whole run with these lengths lent; and where that is little work, the same by single steps.
 pub fn run(bytes: &[u8], expected: &Result<Answer, i32>, lent: Lent) -> Result<(), String> {
     let due = accepted(expected, lent).map(|answer| {
         let written = [big_endian(&answer.table), answer.marks.clone(), big_endian(&answer.packets)];
         (answer.packets.len(), written)
     });
+    #[cfg(stepped)]
+    if is_stepped(expected) {
+        let by_steps = |table: &mut [u8], marks: &mut [u8], output: &mut [u8]| {
+            ours::stepped_run(bytes, table, marks, output)
+        };
+        call("our run by steps", lent, due.clone(), by_steps)?;
+    }
     call("our run", lent, due, |table, marks, output| ours::whole_run(bytes, table, marks, output))
+}
+
+/// Whether a sheet is also run by single steps: each tests every resolution for soundness.
+pub fn is_stepped(expected: &Result<Answer, i32>) -> bool {
+    let work = |answer: &Answer| {
+        let steps = answer.packets.len() + answer.sheet.progressions.count();
+        steps * answer.table.len()
+    };
+    cfg!(stepped) && expected.as_ref().map_or(0, work) <= STEPPED
 }
 
 /// Setup with these lengths lent, the output for what it reports.
 pub fn set_up(bytes: &[u8], expected: &Result<Answer, i32>, lent: Lent) -> Result<(), String> {
-    let due = match lent.output {
-        0..=15 => Err(-8),
-        _ => accepted(expected, Lent { output: usize::MAX, ..lent }).map(|answer| {
-            let cleared = vec![0; answer.marks.len()];
-            ((), [big_endian(&answer.table), cleared, big_endian(&[answer.reports.words()])])
-        }),
-    };
+    let due = accepted(expected, Lent { output: usize::MAX, ..lent }).and_then(|answer| {
+        if lent.output < 16 {
+            return Err(-8);
+        }
+        let cleared = vec![0; answer.marks.len()];
+        Ok(((), [big_endian(&answer.table), cleared, big_endian(&[answer.reports.words()])]))
+    });
     call("our setup", lent, due, |table, marks, reports| ours::setup(bytes, table, marks, reports))
 }
 

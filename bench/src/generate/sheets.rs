@@ -63,13 +63,13 @@ fn sides(random: &mut Random, counts: &[usize], fitting: bool) -> Vec<(u32, Vec<
     let base = random.one_of(&[0, 0, 1, 2, 3, 5, 7, 11, 15]);
     let spread = random.one_of(&[0, 1, 3]);
     let exponent = |random: &mut Random| (base + random.between(0, spread)).min(15);
-    let odd = random.one_of(&[1, 1, 1, 3, 5, 7, 85, 255]);
+    let odd: u32 = random.one_of(&[1, 1, 1, 3, 5, 7, 85, 255]);
     let style = random.below(8);
     let mut finest = 0;
     let mut axis = Vec::new();
     for (compno, &count) in counts.iter().enumerate() {
         let mut exponents: Vec<u32> = (0..count).map(|_| exponent(random)).collect();
-        let doublings = random.between(0, (255 / odd as u32).ilog2().min(3));
+        let doublings = random.between(0, (255 / odd).ilog2().min(3));
         let d = match style {
             // Anything: the grid is agreed for orders 0, 1 and 4 only.
             0 => random.between(1, 255),

@@ -53,8 +53,8 @@ impl Side {
 
     /// Whether a precinct is met at this coordinate of the tile.
     pub fn meets(&self, tile: Axis, at: u64) -> bool {
-        let starts_inside = (self.start << self.level) % (1 << (self.pd + self.level)) != 0;
-        at % self.step == 0 || at == tile.start && starts_inside
+        let starts_inside = !(self.start << self.level).is_multiple_of(1 << (self.pd + self.level));
+        at.is_multiple_of(self.step) || at == tile.start && starts_inside
     }
 
     /// The column or row of the precinct met at this coordinate, counted from the first.

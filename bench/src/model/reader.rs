@@ -7,7 +7,7 @@ const OUT_OF_RANGE: i32 = -3;
 
 /// The records in order; the first bad one decides.
 pub fn read(bytes: &[u8]) -> Result<Sheet, i32> {
-    if bytes.is_empty() || bytes.len() % 32 != 0 || bytes.len() / 32 > 577 {
+    if bytes.is_empty() || !bytes.len().is_multiple_of(32) || bytes.len() / 32 > 577 {
         return Err(-1);
     }
     let mut records = bytes.chunks_exact(32).map(record_of);

@@ -33,7 +33,7 @@ impl Grid {
 
 /// tx0, ty0, tx1, ty1, or None where openjp2's own assertion stops it.
 pub fn tile_bounds(grid: &Grid) -> Option<[u32; 4]> {
-    fault::caught(|| Asker::new().ask(grid)).ok()
+    fault::caught(|| Asker::default().ask(grid)).ok()
 }
 
 /// openjp2's records, made once for many questions.
@@ -43,12 +43,14 @@ pub struct Asker {
     tcp: Box<opj_tcp_t>,
 }
 
-impl Asker {
-    pub fn new() -> Asker {
+impl Default for Asker {
+    fn default() -> Asker {
         // SAFETY: numbers, pointers and bools, for all of which zero is a value.
         unsafe { Asker { image: opj_image_t::default(), cp: zeroed(), tcp: Box::new(zeroed()) } }
     }
+}
 
+impl Asker {
     /// tx0, ty0, tx1, ty1; faults for a tile number that openjp2 does not take.
     pub fn ask(&mut self, grid: &Grid) -> [u32; 4] {
         let Asker { image, cp, tcp } = self;

@@ -81,6 +81,17 @@ pub fn run_to(sheet: &Sheet, most_packets: usize) -> Run {
     }
 }
 
+/// Runs a sheet, and calls its first progression once more after its 0: the packet that it answers then, or what it said when it
+/// faulted. Outside 01's domain: it may never end.
+pub fn called_after_0(sheet: &Sheet) -> Result<Option<Packet>, String> {
+    let mut tile = Tile::of(sheet);
+    let mut iterators = Iterators::create(&mut tile).ok_or("no marks are needed")?;
+    fault::caught(|| {
+        iterators.walk(|_| true);
+        iterators.next_of_first()
+    })
+}
+
 /// A sheet made ready for timing: openjp2's records are filled before the clock starts.
 pub struct Timed(Tile);
 

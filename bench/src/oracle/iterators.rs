@@ -60,15 +60,20 @@ impl Iterators {
         for pino in 0..self.count as usize {
             // SAFETY: there are `count` iterators.
             let pi = unsafe { self.first.add(pino) };
-            while opj_pi_next(pi) != 0 {
-                // SAFETY: as above; the walk answered, so these fields are set.
-                let packet = unsafe { [(*pi).layno, (*pi).resno, (*pi).compno, (*pi).precno] };
+            // SAFETY: as above.
+            while let Some(packet) = unsafe { next(pi) } {
                 if !visit(packet) {
                     return false;
                 }
             }
         }
         true
+    }
+
+    /// One call of the first progression, whether or not it has ended.
+    pub(crate) fn next_of_first(&mut self) -> Option<Packet> {
+        // SAFETY: there is a first iterator.
+        unsafe { next(self.first) }
     }
 
     /// The table's words that the first iterator holds.
@@ -105,6 +110,15 @@ impl Iterators {
         // SAFETY: there is a first iterator.
         unsafe { (*self.first).step_l as usize }
     }
+}
+
+/// `opj_pi_next`: the packet, or None for 0.
+///
+/// # Safety
+///
+/// The pointer is to one of the iterators that openjp2 has made.
+unsafe fn next(pi: *mut opj_pi_iterator_t) -> Option<Packet> {
+    (opj_pi_next(pi) != 0).then(|| [(*pi).layno, (*pi).resno, (*pi).compno, (*pi).precno])
 }
 
 impl Drop for Iterators {

@@ -1,6 +1,20 @@
 -- Each public contract of this crate allows one answer only. Assumes nothing.
 use Rattle.laws.specs.Determined.{determined, determined-by, OneAnswer}
 use Rattle.geometry.specs.Said.{ofWord, word-apart, ofTile, tile-apart}
+use Rattle.geometry.proofs.axis.Axis.of.Kinds as axis-of-kinds
+use Rattle.geometry.proofs.axis.Axis.of.Reads as axis-of
+use Rattle.geometry.proofs.axis.Axis.at.Kinds as axis-at-kinds
+use Rattle.geometry.proofs.axis.Axis.at.Reads as axis-at
+use Rattle.geometry.proofs.axis.Resolution.columns.Kinds as columns-kinds
+use Rattle.geometry.proofs.axis.Resolution.columns.Reads as columns
+use Rattle.geometry.proofs.axis.inside.Kinds as inside-kinds
+use Rattle.geometry.proofs.axis.inside.Reads as inside
+use Rattle.geometry.proofs.axis.step.Kinds as step-kinds
+use Rattle.geometry.proofs.axis.step.Reads as step
+use Rattle.geometry.proofs.axis.Line.meets.Kinds as meets-kinds
+use Rattle.geometry.proofs.axis.Line.meets.Reads as meets
+use Rattle.geometry.proofs.axis.Line.column.Kinds as column-kinds
+use Rattle.geometry.proofs.axis.Line.column.Reads as column
 use Rattle.geometry.proofs.ceiling.divided.Kinds as divided-kinds
 use Rattle.geometry.proofs.ceiling.divided.Reads as divided
 use Rattle.geometry.proofs.ceiling.shifted.Kinds as shifted-kinds
@@ -29,6 +43,27 @@ use Rattle.geometry.proofs.precinct.resolution_bound.Kinds as resolutio
 use Rattle.geometry.proofs.precinct.resolution_bound.Reads as resolution-bound
 use Rattle.geometry.proofs.precinct.precincts.Kinds as precincts-kinds
 use Rattle.geometry.proofs.precinct.precincts.Reads as precincts
+
+pub axis-of-determined : OneAnswer axis-of-kinds.ps axis-of-kinds.r axis-of.Post
+axis-of-determined κs a r s e f = determined _ r s
+
+pub axis-at-determined : OneAnswer axis-at-kinds.ps axis-at-kinds.r axis-at.Post
+axis-at-determined κs a r s e f = determined _ r s
+
+pub columns-determined : OneAnswer columns-kinds.ps columns-kinds.r columns.Post
+columns-determined κs a r s e f = determined _ r s
+
+pub inside-determined : OneAnswer inside-kinds.ps inside-kinds.r inside.Post
+inside-determined κs a r s e f = determined _ r s
+
+pub step-determined : OneAnswer step-kinds.ps step-kinds.r step.Post
+step-determined κs a r s e f = determined _ r s
+
+pub meets-determined : OneAnswer meets-kinds.ps meets-kinds.r meets.Post
+meets-determined κs a r s e f = determined _ r s
+
+pub column-determined : OneAnswer column-kinds.ps column-kinds.r column.Post
+column-determined κs a r s e f = determined _ r s
 
 pub divided-determined : OneAnswer divided-kinds.ps divided-kinds.r divided.Post
 divided-determined κs a r s e f = determined _ r s

@@ -1,5 +1,5 @@
 -- The hits theorem: the points of an axis that pass the standard's test, in upward order, are met at columns 0, 1, .., count - 1, each exactly once;
--- and the next hit behind a point is at the next multiple of the step. Assumes nothing.
+-- and the next hit after a point is at the next multiple of the step. Assumes nothing.
 use mathlib.Core.Path.{_≡_, refl, sym, ap, _∙_}
 use mathlib.Core.Bool.{Bool, true, false, not, _&&_}
 use mathlib.Core.List.{[], map}
@@ -15,7 +15,7 @@ use Rattle.laws.specs.Cases.{le-or-lt}
 use Rattle.laws.specs.Gather.{only, keep}
 use Rattle.laws.specs.Axis.{span}
 use Rattle.laws.specs.Stride.{stride, stride-multiple, between, points, points-suffice}
-use Rattle.laws.specs.Ceiling.{ceilDiv, ceil-ceil, ceil-mono, below-ceil, ceil-small}
+use Rattle.laws.specs.Ceiling.{ceilDiv, ceil-ceil, ceil-mono, ceil-one, ceil-none, below-ceil, ceil-small}
 use Rattle.laws.specs.Corners
 use Rattle.geometry.specs.Precinct.{across}
 use Rattle.geometry.specs.Line.{Line, boundOf, low, high, step, count, first, whole, hitAt, columnOf, hits}
@@ -29,9 +29,10 @@ pub record Proper (s : Line) : Type 0 where
   pub positive : 1 ≤ s .d
   pub apart : low s < high s
 
-pub bound-law : (t d level : ℕ) → 1 ≤ d → boundOf t d level ≡ ceilDiv t (d * 2 ^ level)
+pub bound-law : (t d level : ℕ) → boundOf t d level ≡ ceilDiv t (d * 2 ^ level)
 unfolding boundOf
-bound-law t d level h = ceil-ceil d (2 ^ level) h (pow-pos level) t
+bound-law t zero level = rw (zero-mul (2 ^ level), ← (ceil-none t)) (ceil-one (2 ^ level) (pow-pos level) 0 (omega arith))
+bound-law t (suc d) level = ceil-ceil (suc d) (2 ^ level) (omega arith) (pow-pos level) t
 
 pub step-law : (d level pd : ℕ) → d * 2 ^ (pd + level) ≡ d * 2 ^ level * 2 ^ pd
 step-law d level pd = rw (pow-add 2 pd level, mul-comm (2 ^ pd) (2 ^ level), mul-assoc d (2 ^ level) (2 ^ pd))
@@ -60,31 +61,31 @@ module _ (s : Line) (h : Proper s) where
   posD = mul-pos (h .positive) (pow-pos (s .level))
 
   apart : ceilDiv (s .t0) (s .d * 2 ^ s .level) < ceilDiv (s .t1) (s .d * 2 ^ s .level)
-  apart = rw (bound-law (s .t0) (s .d) (s .level) (h .positive), bound-law (s .t1) (s .d) (s .level) (h .positive)) at (h .apart)
+  apart = rw (bound-law (s .t0) (s .d) (s .level), bound-law (s .t1) (s .d) (s .level)) at (h .apart)
 
   -- THE HITS ARE THE CORNERS of the precincts, in order
   pub hits-corners : hits s ≡ map (cornerOf s) (span (first s) (ceilDiv (high s) (2 ^ s .pd)))
   unfolding hits hitAt
   hits-corners =
-      rw (cornerOf, whole-law s, step-law (s .d) (s .level) (s .pd), bound-law (s .t0) _ (s .level) (h .positive), bound-law (s .t1) _ (s .level) (h .positive))
+      rw (cornerOf, whole-law s, step-law (s .d) (s .level) (s .pd), bound-law (s .t0) _ (s .level), bound-law (s .t1) _ (s .level))
       (Corners.corners _ _ posD (pow-pos (s .pd)) (s .t0) (s .t1) _ refl apart)
 
   -- THEOREM A. The hits in upward order are the columns 0, 1, .., each once.
   pub hits-columns : map (columnOf s) (hits s) ≡ span 0 (count s)
   unfolding hits hitAt columnOf
   hits-columns =
-      rw (count-law s h) (rw (whole-law s, step-law (s .d) (s .level) (s .pd)) (simp (columnOf, bound-law, h .positive) (Corners.columns _ _ posD (pow-pos (s .pd)) (s .t0) (s .t1) _ refl apart)))
+      rw (count-law s h) (rw (whole-law s, step-law (s .d) (s .level) (s .pd)) (simp (columnOf, bound-law) (Corners.columns _ _ posD (pow-pos (s .pd)) (s .t0) (s .t1) _ refl apart)))
 
 -- an axis with no sample has no hit, but for its start where that is inside a precinct
 pub hits-idle : (s : Line) → 1 ≤ s .d → low s ≡ high s → hits s ≡ only (ltb (s .t0) (s .t1) && not (whole s)) (s .t0)
 unfolding hits hitAt
 hits-idle s h e =
-    rw (whole-law s, step-law (s .d) (s .level) (s .pd), bound-law (s .t0) (s .d) (s .level) h)
+    rw (whole-law s, step-law (s .d) (s .level) (s .pd), bound-law (s .t0) (s .d) (s .level))
     (Corners.no-sample _ _ (mul-pos h (pow-pos (s .level))) (pow-pos (s .pd)) (s .t0) (s .t1) _ refl
-    (rw (bound-law (s .t0) (s .d) (s .level) h, bound-law (s .t1) (s .d) (s .level) h) at e))
+    (rw (bound-law (s .t0) (s .d) (s .level), bound-law (s .t1) (s .d) (s .level)) at e))
 
 pub bound-mono : (x z d level : ℕ) → 1 ≤ d → x ≤ z → boundOf x d level ≤ boundOf z d level
-bound-mono x z d level h p = rw (bound-law x d level h, bound-law z d level h) (ceil-mono (d * 2 ^ level) (mul-pos h (pow-pos level)) x z p)
+bound-mono x z d level h p = rw (bound-law x d level, bound-law z d level) (ceil-mono (d * 2 ^ level) (mul-pos h (pow-pos level)) x z p)
 
 -- an axis of a tile, with samples or none
 pub record Ordered (s : Line) : Type 0 where
@@ -119,7 +120,7 @@ module _ (s : Line) (h : 1 ≤ s .d) where
 
   -- the first column is at most that of any point
   first-least : (x : ℕ) → s .t0 ≤ x → first s ≤ ceilDiv x (s .d * 2 ^ s .level) / 2 ^ s .pd
-  first-least x p = rw (bound-law (s .t0) (s .d) (s .level) h) (shr-mono (s .pd) (ceil-mono (s .d * 2 ^ s .level) posD' (s .t0) x p))
+  first-least x p = rw (bound-law (s .t0) (s .d) (s .level)) (shr-mono (s .pd) (ceil-mono (s .d * 2 ^ s .level) posD' (s .t0) x p))
 
   -- a hit is the corner of its column
   pub hit-corner : (x : ℕ) → s .t0 ≤ x → hitAt s x ≡ true → x ≡ cornerOf s (first s + columnOf s x)
@@ -128,7 +129,7 @@ module _ (s : Line) (h : 1 ≤ s .d) where
       let f : first s + columnOf s x ≡ ceilDiv x (s .d * 2 ^ s .level) / 2 ^ s .pd = omega (arith, first-least x p) in
       rw (f, step-law (s .d) (s .level) (s .pd))
       (Corners.corner-column _ _ posD' (pow-pos (s .pd)) (s .t0) (s .t1) x p
-      (rw (whole-law s, step-law (s .d) (s .level) (s .pd), bound-law (s .t0) (s .d) (s .level) h) at e))
+      (rw (whole-law s, step-law (s .d) (s .level) (s .pd), bound-law (s .t0) (s .d) (s .level)) at e))
 
   -- the column of a hit is the quotient by the step, from the first
   pub hit-quotient : (x : ℕ) → s .t0 ≤ x → hitAt s x ≡ true → (columnOf s x ≡ x / step s - first s) × (first s ≤ x / step s)
@@ -137,7 +138,7 @@ module _ (s : Line) (h : 1 ≤ s .d) where
       let q : ceilDiv x (s .d * 2 ^ s .level) / 2 ^ s .pd ≡ x / step s
       = rw (step-law (s .d) (s .level) (s .pd))
       (Corners.column-quotient _ _ posD' (pow-pos (s .pd)) (s .t0) (s .t1) x
-      (rw (whole-law s, step-law (s .d) (s .level) (s .pd), bound-law (s .t0) (s .d) (s .level) h) at e)) in
+      (rw (whole-law s, step-law (s .d) (s .level) (s .pd), bound-law (s .t0) (s .d) (s .level)) at e)) in
       (ap (λ (n : ℕ). n - first s) q, rw q at (first-least x p))
 
   -- two hits of one column are one
@@ -177,7 +178,7 @@ col-below s h x p q e =
     let D : ℕ = s .d * 2 ^ s .level in
     let turned : k * step s ≡ k * 2 ^ s .pd * D = rw (step-law (s .d) (s .level) (s .pd), mul-comm D (2 ^ s .pd), mul-assoc k (2 ^ s .pd) D) in
     let a : k * 2 ^ s .pd * D < s .t1 = omega (arith, hit-corner s (h .positive) x p e) in
-    let b : k * 2 ^ s .pd < high s = rw (bound-law (s .t1) (s .d) (s .level) (h .positive)) (below-ceil D (posD s h) (s .t1) (k * 2 ^ s .pd) a) in
+    let b : k * 2 ^ s .pd < high s = rw (bound-law (s .t1) (s .d) (s .level)) (below-ceil D (posD s h) (s .t1) (k * 2 ^ s .pd) a) in
     omega (arith, below-ceil (2 ^ s .pd) (pow-pos (s .pd)) (high s) k b, count-law s h)
 
 -- an axis with samples has a precinct
@@ -194,6 +195,6 @@ count-small s h =
     (λ z.
     let p : Proper s = proper s h z in
     let D : ℕ = s .d * 2 ^ s .level in
-    let a : high s ≤ s .t1 = rw (bound-law (s .t1) (s .d) (s .level) (h .positive)) (ceil-small D (posD s p) (s .t1)) in
+    let a : high s ≤ s .t1 = rw (bound-law (s .t1) (s .d) (s .level)) (ceil-small D (posD s p) (s .t1)) in
     omega (arith, count-law s p, ceil-small (2 ^ s .pd) (pow-pos (s .pd)) (high s)))
     (le-or-lt (count s) 0)

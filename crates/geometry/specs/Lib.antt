@@ -4,5 +4,6 @@ pub mod Math
 pub mod Tile
 pub mod Precinct
 pub mod Line
+pub mod Axis
 pub mod Hits
 pub mod Raster

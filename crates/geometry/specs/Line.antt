@@ -2,7 +2,7 @@
 use mathlib.Core.Bool.{Bool, not, _&&_, _||_}
 use mathlib.Core.List.{List}
 use Prim.Native.Nat.{ℕ, _+_, _-_, _*_, _/_, _%_, _^_}
-use lib.Dec.{eqb}
+use lib.Dec.{ltb, leb, eqb}
 use Rattle.laws.specs.Ceiling.{ceilDiv}
 use Rattle.laws.specs.Gather.{keep}
 use Rattle.laws.specs.Axis.{span}
@@ -46,6 +46,10 @@ whole s = eqb (low s * 2 ^ s .level % 2 ^ (s .pd + s .level)) 0
 -- T.800 B.12.1.3, the point test: x is divisible by XRsiz·2^(PPx + N_L - r), or x = tx0 and the above does not hold
 unfoldable pub hitAt : Line → ℕ → Bool
 hitAt s x = eqb (x % step s) 0 || (eqb x (s .t0) && not (whole s))
+
+-- 01: a precinct is met at x, a point of the tile that passes the test
+abbrev pub meetsAt : Line → ℕ → Bool
+meetsAt s x = leb (s .t0) x && (ltb x (s .t1) && hitAt s x)
 
 -- 01: the column at x is floor(ceil(x/(d·2^level))/2^pd) - floor(r0/2^pd)
 unfoldable pub columnOf : Line → ℕ → ℕ

@@ -1,4 +1,5 @@
 // The bounds of a component and of a resolution, and the precincts of a resolution, on one axis (01, 'Geometry').
+use crate::axis::Resolution;
 use crate::math;
 use crate::math::Word;
 ghost use mathlib.Core.Path.{_≡_};
@@ -23,14 +24,10 @@ pub fn resolution_bound(c: u32, level: u32) -> Word
 pub fn precincts(r0: u32, r1: u32, pd: u32) -> Word
     ensures { λ r. ⌜ ofWord r ≡ precinctsOf r0 r1 pd ⌝ }
 {
-    let Word::Value(first) = math::uint_floordivpow2(r0, pd) else {
-        return Word::Refused;
-    };
-    if r1 <= r0 {
-        return Word::Value(0);
-    }
-    match math::uint_ceildivpow2(r1, pd) {
-        Word::Value(end) => Word::Value(end - first),
-        Word::Refused => Word::Refused,
+    if pd < 32 {
+        let columns = Resolution { r0, r1 }.columns(pd);
+        Word::Value(columns.count)
+    } else {
+        Word::Refused
     }
 }

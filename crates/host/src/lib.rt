@@ -1,4 +1,6 @@
 // The exports for C (include/bonxigarth.h): plain numbers and byte buffers.
+use calls::output::Output;
+use calls::setup::setup_for;
 use geometry::tile::Area;
 use geometry::tile::Grid;
 use geometry::tile::Tile;
@@ -21,10 +23,10 @@ pub extern "C" fn bonxigarth_whole_run(
     ensures marked { λ _. ⌜ now (marks .exit) ≡ wholeRunOf (now (sheet .entry)) (now (table .entry)) (now (marks .entry)) (now (output .entry)) .marks ⌝ }
     ensures listed { λ _. ⌜ now (output .exit) ≡ wholeRunOf (now (sheet .entry)) (now (table .entry)) (now (marks .entry)) (now (output .entry)) .output ⌝ }
 {
-    walks::whole::whole_run(sheet, table, marks, output)
+    calls::whole::whole_run(sheet, table, marks, output)
 }
 
-// Sets a sheet up and writes what setup reports; answers 0, or -8 before all else, or -1 to -7, and nothing changes.
+// Sets a sheet up and writes what setup reports; answers 0, or -1 to -8, and nothing changes.
 #[no_mangle]
 pub extern "C" fn bonxigarth_setup(
     sheet: &[u8],
@@ -37,15 +39,19 @@ pub extern "C" fn bonxigarth_setup(
     ensures cleared { λ _. ⌜ now (marks .exit) ≡ setupForC (now (sheet .entry)) (now (table .entry)) (now (marks .entry)) (now (reports .entry)) .marks ⌝ }
     ensures told { λ _. ⌜ now (reports .exit) ≡ setupForC (now (sheet .entry)) (now (table .entry)) (now (marks .entry)) (now (reports .entry)) .output ⌝ }
 {
-    if reports.len() < 16 {
-        return -8;
-    }
-    let up = sheets::setup(sheet, table, marks);
+    let up = setup_for(sheet, table, marks, Output::Reports(reports.len()));
     let verdict = up.verdict;
     let number = verdict.number();
     if number == 0 {
-        let st = up.state;
-        put_four(reports, 0, st.max_prec, st.max_res, st.dx_min, st.dy_min);
+        let found = up.state.reports;
+        put_four(
+            reports,
+            0,
+            found.max_prec,
+            found.max_res,
+            found.dx_min,
+            found.dy_min,
+        );
     }
     number
 }

@@ -5,13 +5,13 @@ use mathlib.Core.List.{List, [], _∷_, _++_, map, List·Memᴰ as In, List·Mem
 use mathlib.Core.Logic.{⊎-elim}
 use Prim.Native.Nat.{ℕ, suc, _+_, _≤_, _<_}
 use native.Mathlib.Omega.{arith}
-use lib.ListN.{length, getD, length-set}
-use lib.Seq.{getD-set-same, getD-set-other}
+use lib.ListN.{length, getD}
 use lib.Dec.{eqb}
 use borrow.Author.Tests.{eq-eqb, ne-eqb, eqb-true, eqb-false, not-true, not-false}
 use Rattle.laws.specs.Cases.{split}
 use Rattle.laws.specs.Gather.{gather}
 use Rattle.laws.specs.Lists.{NoRepeats, none, more, Rearranged, rearranged-in, rearranged-from, rearranged-by}
+use Rattle.laws.specs.Marks.{marked-one, freeAt, markedByte, zero-free, mark-length, taken-self, free-other}
 use Rattle.laws.specs.Runs.{fresh, Ran, run, run-lists, free, mark, unlisted, unlisted-free, unlisted-taken, marked}
 use Rattle.laws.specs.Listing.{indexes, Fits, length-marked, marked-in, marked-out, listed-of, listed-was, listed-once, unlisted-append, marked-append, same-listed, same-marks, unlisted-within}
 use Rattle.laws.specs.Gathered.{gathered, gathered-from}
@@ -57,9 +57,9 @@ module _ {P : Type 0} (ix : P → ℕ) where
     unfolding unseen
     unseen-new e = rw (unseen, e)
 
-  -- below n, the marks that are 0 are those of the indexes not seen
+  -- below n, the marks that are free are those of the indexes not seen
   abbrev Agrees : ℕ → List ℕ → List ℕ → Type 0
-  Agrees n m seen = (i : ℕ) → i < n → eqb (getD m i 0) 0 ≡ not (has i seen)
+  Agrees n m seen = (i : ℕ) → i < n → freeAt m i ≡ not (has i seen)
 
   agrees-mark : (n : ℕ) (m seen : List ℕ) (p : P) → n ≤ length m → Agrees n m seen → Agrees n (mark ix m p) (ix p ∷ seen)
   agrees-mark n m seen p h a i k =
@@ -67,8 +67,8 @@ module _ {P : Type 0} (ix : P → ℕ) where
       (λ t.
       let e : i ≡ ix p = eqb-true i (ix p) t in
       let g : ix p < length m = omega arith in
-      rw (has-self i (ix p) seen t, e, getD-set-same m (ix p) 1 0 g) refl)
-      (λ t. rw (has-other i (ix p) seen t, getD-set-other m (ix p) i 1 0 (eqb-false i (ix p) t)) (a i k))
+      rw (has-self i (ix p) seen t, e) (taken-self m (ix p) g))
+      (λ t. rw (has-other i (ix p) seen t) (free-other m (ix p) i (eqb-false i (ix p) t) ∙ a i k))
 
   unlisted-unseen : (n : ℕ) (m seen : List ℕ) (ps : List P) → n ≤ length m → Agrees n m seen
       → ((i : ℕ) → In i (indexes ix ps) → i < n) → unlisted ix m ps ≡ unseen seen ps
@@ -78,7 +78,7 @@ module _ {P : Type 0} (ix : P → ℕ) where
       split (free ix m p)
       (λ t.
       unlisted-free ix m p ps t
-      ∙ ap (λ (l : List P). p ∷ l) (unlisted-unseen n (mark ix m p) (ix p ∷ seen) ps (rw (length-set m (ix p) 1) h) (agrees-mark n m seen p h a) (λ i q. f i (there q)))
+      ∙ ap (λ (l : List P). p ∷ l) (unlisted-unseen n (mark ix m p) (ix p ∷ seen) ps (rw (mark-length m (ix p)) h) (agrees-mark n m seen p h a) (λ i q. f i (there q)))
       ∙ sym (unseen-new seen p ps (not-true _ (sym (a (ix p) (f (ix p) (here refl))) ∙ t))))
       (λ t.
       unlisted-taken ix m p ps t
@@ -89,7 +89,7 @@ module _ {P : Type 0} (ix : P → ℕ) where
   pub unlisted-dedupe : (n : ℕ) (m : List ℕ) (ps : List P) → n ≤ length m → ((i : ℕ) → i < n → getD m i 0 ≡ 0)
       → ((i : ℕ) → In i (indexes ix ps) → i < n) → unlisted ix m ps ≡ dedupe ps
   unfolding has
-  unlisted-dedupe n m ps h z f = unlisted-unseen n m [] ps h (λ i k. eq-eqb _ _ (z i k)) f
+  unlisted-dedupe n m ps h z f = unlisted-unseen n m [] ps h (λ i k. zero-free m i (z i k)) f
 
 -- how often i occurs
 unfoldable pub count : ℕ → List ℕ → ℕ
@@ -144,13 +144,15 @@ module _ {P : Type 0} (ix : P → ℕ) where
     listing-complete z =
         record {
           order = unlisted-dedupe ix n m (joined pss) enough z (joined-below n pss below);
-          set-marks = λ i q. marked-in ix m (unlisted ix m (joined pss)) i (fits i (listed-was ix m (joined pss) fits i q .member)) q;
+          set-marks = λ i q.
+              let w = listed-was ix m (joined pss) fits i q .member in
+              marked-in ix m (unlisted ix m (joined pss)) i (fits i w) q ∙ ap markedByte (z i (joined-below n pss below i w)) ∙ marked-one;
           other-marks = λ i q. marked-out ix m (unlisted ix m (joined pss)) i q;
           size = length-marked ix m (unlisted ix m (joined pss));
           at-most-once = listed-once ix m (joined pss) fits;
           every = λ ps q p h.
               count-one (ix p) (listed-once ix m (joined pss) fits)
-              (listed-of ix m (joined pss) (ix p) (z (ix p) (below ps q p h)) (in-map ix (gathered (λ l. l) q h)));
+              (listed-of ix m (joined pss) (ix p) (zero-free m (ix p) (z (ix p) (below ps q p h))) (in-map ix (gathered (λ l. l) q h)));
         }
 
   -- two orders of the same progressions

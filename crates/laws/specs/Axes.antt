@@ -1,4 +1,4 @@
--- What stands behind a point of an axis, and behind an element of a level of a nest of loops. Assumes nothing.
+-- What stands after a point of an axis, and after an element of a level of a nest of loops. Assumes nothing.
 use mathlib.Core.Path.{_≡_, sym, ap, _∙_}
 use mathlib.Core.List.{List, _++_, List·Memᴰ as In, List·Memᴰ·not-nil as not-in-nil, List·Memᴰ·cases-cons as in-cons}
 use mathlib.Core.Logic.{_⊎_, ⊎-elim}
@@ -11,7 +11,7 @@ use Rattle.laws.specs.Axis.{axis, axis-head, axis-end}
 use Rattle.laws.specs.Lists.{NoRepeats, none, more, behind, behind-here, behind-there}
 use Rattle.laws.specs.Gathered.{Keyed, keyed-from, behind-gather}
 
--- AN AXIS: what is behind a point of it is the axis from the next point on
+-- AN AXIS: what is after a point of it is the axis from the next point on
 module _ (nx : ℕ → ℕ) (grows : (x : ℕ) → x < nx x) where
   -- a point of an axis is the first, or on the axis from the next
   record Point (a b x : ℕ) : Type 0 where
@@ -70,7 +70,7 @@ module _ (nx : ℕ → ℕ) (grows : (x : ℕ) → x < nx x) where
   pub axis-no-repeats : (a b : ℕ) → NoRepeats (axis nx a b)
   axis-no-repeats a b = axis-no-repeats-by (b - a) a b (omega arith)
 
-  -- A LEVEL OF THE NEST: behind p among all that the axis gives is what is behind it in its own turn, and then the other turns
+  -- A LEVEL OF THE NEST: after p among all that the axis gives is what is after it in its own turn, and then the other turns
   pub behind-level : {B : Type 0} (same : Discrete B) (key : B → ℕ) (f g : ℕ → List B) → Keyed key f → (a b : ℕ) (p : B)
       → In p (gather f (axis nx a b)) → (In p (f (key p)) → behind same p (f (key p)) ≡ g (key p))
       → behind same p (gather f (axis nx a b)) ≡ headed g f (axis nx (key p) b)

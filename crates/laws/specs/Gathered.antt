@@ -1,4 +1,4 @@
--- Membership in a gathered list, and what stands behind an element where each part carries a key of its own. Assumes nothing.
+-- Membership in a gathered list, and what stands after an element where each part carries a key of its own. Assumes nothing.
 use mathlib.Core.Path.{_≡_, refl, sym, ap, _∙_, subst}
 use mathlib.Core.List.{List, [], _∷_, _++_, List·Memᴰ as In, List·Memᴰ·head as here, List·Memᴰ·tail as there, List·Memᴰ·not-nil as not-in-nil, Memᴰ·append-left as in-left, Memᴰ·append-right as in-right, List·Memᴰ·append-cases as in-append}
 use mathlib.Core.Logic.{_⊎_, inl, inr, ⊎-elim}
@@ -44,7 +44,7 @@ module _ {A B : Type 0} (key : B → A) (f : A → List B) (keyed : Keyed key f)
       no-repeats-append (u i) (gather-no-repeats h u)
       (λ b p q. n (subst (λ j. In j is) (keyed i b p) (keyed-from is b q .0)))
 
-  -- R4: behind b there is what is behind b among those with its key, and then what the keys behind its key give
+  -- R4: after b there is what is after b among those with its key, and then what the keys after its key give
   module _ (sameA : Discrete A) (sameB : Discrete B) where
     pub behind-gather : (b : B) (is : List A) → In b (gather f is)
         → behind sameB b (gather f is) ≡ behind sameB b (f (key b)) ++ gather f (behind sameA (key b) is)

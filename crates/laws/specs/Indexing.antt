@@ -30,7 +30,7 @@ module _ {B : Type 0} (f : ℕ → List B) where
       let e : gather f (span 0 (suc n)) ≡ gather f (span 0 n) ++ f n = rw (add-one n) at (gather-last n) in
       rw (e, length-append (gather f (span 0 n)) (f n), gather-length n)
 
-  -- element j of what c gives stands behind all that the numbers below c give
+  -- element j of what c gives stands after all that the numbers below c give
   pub gather-at : (n c j : ℕ) (d : B) → c < n → j < length (f c) → getD (gather f (span 0 n)) (sumBelow (λ i. length (f i)) c + j) d ≡ getD (f c) j d
   unfolding gather
   gather-at n c j d h k =

@@ -33,7 +33,8 @@ pub mod Means
 pub mod Parts
 pub mod Bounded
 pub mod Filled
+pub mod Marks
 pub mod Runs
 pub mod Listing
-pub mod Zeros
+pub mod Frees
 pub mod AllRuns

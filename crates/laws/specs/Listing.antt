@@ -1,15 +1,15 @@
 -- What is listed: each index once, and the marks that are left. Assumes nothing.
 use mathlib.Core.Path.{_≡_, refl, sym, ap, _∙_}
-use mathlib.Core.List.{List, [], _∷_, _++_, map, List·Memᴰ as In, List·Memᴰ·head as here, List·Memᴰ·tail as there, List·Memᴰ·not-nil as not-in-nil, List·Memᴰ·cases-cons as in-cons}
+use mathlib.Core.Bool.{true, true≢false}
+use mathlib.Core.List.{List, [], _∷_, _++_, map, List·Memᴰ as In, List·Memᴰ·head as here, List·Memᴰ·tail as there, List·Memᴰ·not-nil as not-in-nil, List·Memᴰ·cases-cons as in-cons, Memᴰ·cast as in-cast}
 use mathlib.Core.Logic.{⊎-elim}
 use Prim.Native.Nat.{ℕ, _<_}
 use native.Mathlib.Decide.{ℕ-discrete}
-use native.Mathlib.Omega.{arith}
-use lib.ListN.{length, getD, length-set}
-use lib.Seq.{getD-set-same, getD-set-other, ext-getD}
-use borrow.Author.Tests.{eqb-true, eqb-false}
+use lib.ListN.{length, getD}
+use lib.Seq.{ext-getD}
 use Rattle.laws.specs.Cases.{split}
 use Rattle.laws.specs.Lists.{NoRepeats, none, more, Rearranged, same-elements, decIn}
+use Rattle.laws.specs.Marks.{markedByte, marked-again, freeAt, mark-length, mark-self, mark-other, taken-self, free-other}
 use Rattle.laws.specs.Runs.{free, mark, unlisted, unlisted-free, unlisted-taken, marked}
 
 module _ {P : Type 0} (ix : P → ℕ) where
@@ -22,61 +22,67 @@ module _ {P : Type 0} (ix : P → ℕ) where
   Fits m ps = (i : ℕ) → In i (indexes ps) → i < length m
 
   fits-mark : (m : List ℕ) (p : P) (ps : List P) → Fits m (p ∷ ps) → Fits (mark ix m p) ps
-  fits-mark m p ps f i h = rw (length-set m (ix p) 1) (f i (there h))
+  fits-mark m p ps f i h = rw (mark-length m (ix p)) (f i (there h))
 
-  mark-self : (m : List ℕ) (p : P) (i : ℕ) → i < length m → i ≡ ix p → getD (mark ix m p) i 0 ≡ 1
-  mark-self m p i h e = rw e (getD-set-same m (ix p) 1 0 (rw e at h))
+  -- marking changes a byte to the marked one, or not at all
+  marks-byte : (m : List ℕ) (p : P) (i : ℕ) → i < length m → i ≡ ix p → getD (mark ix m p) i 0 ≡ markedByte (getD m i 0)
+  marks-byte m p i h e = rw e (mark-self m (ix p) (rw e at h))
 
-  -- a mark once set stays
-  mark-kept : (m : List ℕ) (p : P) (i : ℕ) → i < length m → getD m i 0 ≡ 1 → getD (mark ix m p) i 0 ≡ 1
-  mark-kept m p i h e = kept (ℕ-discrete i (ix p))
+  -- a byte once marked stays
+  mark-kept : (m : List ℕ) (p : P) (i b : ℕ) → i < length m → getD m i 0 ≡ markedByte b → getD (mark ix m p) i 0 ≡ markedByte b
+  mark-kept m p i b h e = kept (ℕ-discrete i (ix p))
     where
-      kept : Dec (i ≡ ix p) → getD (mark ix m p) i 0 ≡ 1
-      kept (yes q) = mark-self m p i h q
-      kept (no n) = getD-set-other m (ix p) i 1 0 n ∙ e
+      kept : Dec (i ≡ ix p) → getD (mark ix m p) i 0 ≡ markedByte b
+      kept (yes q) = marks-byte m p i h q ∙ ap markedByte e ∙ marked-again b
+      kept (no n) = mark-other m (ix p) i n ∙ e
 
   pub length-marked : (m : List ℕ) (ps : List P) → length (marked ix m ps) ≡ length m
   unfolding marked
   length-marked m [] = refl
-  length-marked m (p ∷ ps) = length-marked (mark ix m p) ps ∙ length-set m (ix p) 1
+  length-marked m (p ∷ ps) = length-marked (mark ix m p) ps ∙ mark-length m (ix p)
 
-  marked-kept : (m : List ℕ) (ps : List P) (i : ℕ) → i < length m → getD m i 0 ≡ 1 → getD (marked ix m ps) i 0 ≡ 1
+  marked-kept : (m : List ℕ) (ps : List P) (i b : ℕ) → i < length m → getD m i 0 ≡ markedByte b → getD (marked ix m ps) i 0 ≡ markedByte b
   unfolding marked
-  marked-kept m [] i h e = e
-  marked-kept m (p ∷ ps) i h e = marked-kept (mark ix m p) ps i (rw (length-set m (ix p) 1) h) (mark-kept m p i h e)
+  marked-kept m [] i b h e = e
+  marked-kept m (p ∷ ps) i b h e = marked-kept (mark ix m p) ps i b (rw (mark-length m (ix p)) h) (mark-kept m p i b h e)
 
-  -- the marks with those of ps set: 1 at the indexes of ps, and as before elsewhere
-  pub marked-in : (m : List ℕ) (ps : List P) (i : ℕ) → i < length m → In i (indexes ps) → getD (marked ix m ps) i 0 ≡ 1
+  -- the marks with those of ps set: the byte marked at the indexes of ps, and as before elsewhere
+  pub marked-in : (m : List ℕ) (ps : List P) (i : ℕ) → i < length m → In i (indexes ps) → getD (marked ix m ps) i 0 ≡ markedByte (getD m i 0)
   unfolding marked
   marked-in m [] i h q = absurd (not-in-nil q)
   marked-in m (p ∷ ps) i h q =
-      let h' : i < length (mark ix m p) = rw (length-set m (ix p) 1) h in
-      ⊎-elim (λ e. marked-kept (mark ix m p) ps i h' (mark-self m p i h e)) (marked-in (mark ix m p) ps i h') (in-cons q)
+      let h' : i < length (mark ix m p) = rw (mark-length m (ix p)) h in
+      now h' (ℕ-discrete i (ix p)) (marked-in (mark ix m p) ps i h')
+    where
+      now : i < length (mark ix m p) → Dec (i ≡ ix p) → (In i (indexes ps) → getD (marked ix (mark ix m p) ps) i 0 ≡ markedByte (getD (mark ix m p) i 0))
+          → getD (marked ix (mark ix m p) ps) i 0 ≡ markedByte (getD m i 0)
+      now h' (yes e) go = marked-kept (mark ix m p) ps i (getD m i 0) h' (marks-byte m p i h e)
+      now h' (no n) go = go (⊎-elim (λ e. absurd (n e)) (λ j. j) (in-cons q)) ∙ ap markedByte (mark-other m (ix p) i n)
 
   pub marked-out : (m : List ℕ) (ps : List P) (i : ℕ) → (In i (indexes ps) → ⊥) → getD (marked ix m ps) i 0 ≡ getD m i 0
   unfolding marked
   marked-out m [] i n = refl
   marked-out m (p ∷ ps) i n =
-      marked-out (mark ix m p) ps i (λ q. n (there q)) ∙ getD-set-other m (ix p) i 1 0 (λ e. n (here e))
+      marked-out (mark ix m p) ps i (λ q. n (there q)) ∙ mark-other m (ix p) i (λ e. n (here e))
 
-  -- an index is listed where its mark is 0, and only there
-  pub listed-of : (m : List ℕ) (ps : List P) (i : ℕ) → getD m i 0 ≡ 0 → In i (indexes ps) → In i (indexes (unlisted ix m ps))
+  -- an index is listed where its mark is free, and only there
+  pub listed-of : (m : List ℕ) (ps : List P) (i : ℕ) → freeAt m i ≡ true → In i (indexes ps) → In i (indexes (unlisted ix m ps))
   listed-of m [] i z q = absurd (not-in-nil q)
   listed-of m (p ∷ ps) i z q =
       split (free ix m p)
       (λ t. rw (unlisted-free ix m p ps t) (now (ℕ-discrete i (ix p)) (listed-of (mark ix m p) ps i)))
       (λ t.
       rw (unlisted-taken ix m p ps t)
-      (⊎-elim (λ e. absurd (eqb-false _ _ t (rw e at z))) (listed-of m ps i z) (in-cons q)))
+      (⊎-elim (λ e. absurd (true≢false (sym (rw e at z) ∙ t))) (listed-of m ps i z) (in-cons q)))
     where
-      now : Dec (i ≡ ix p) → (getD (mark ix m p) i 0 ≡ 0 → In i (indexes ps) → In i (indexes (unlisted ix (mark ix m p) ps)))
+      now : Dec (i ≡ ix p) → (freeAt (mark ix m p) i ≡ true → In i (indexes ps) → In i (indexes (unlisted ix (mark ix m p) ps)))
           → In i (ix p ∷ indexes (unlisted ix (mark ix m p) ps))
       now (yes e) go = here e
       now (no n) go =
-          there (go (getD-set-other m (ix p) i 1 0 n ∙ z) (⊎-elim (λ e. absurd (n e)) (λ j. j) (in-cons q)))
+          there (go (free-other m (ix p) i n ∙ z) (⊎-elim (λ e. absurd (n e)) (λ j. j) (in-cons q)))
 
   pub record Was (m : List ℕ) (ps : List P) (i : ℕ) : Type 0 where
-    pub zero-mark : getD m i 0 ≡ 0
+    pub is-free : freeAt m i ≡ true
     pub member : In i (indexes ps)
 
   pub listed-was : (m : List ℕ) (ps : List P) → Fits m ps → (i : ℕ) → In i (indexes (unlisted ix m ps)) → Was m ps i
@@ -87,20 +93,20 @@ module _ {P : Type 0} (ix : P → ℕ) where
       (λ t.
       let q' : In i (ix p ∷ indexes (unlisted ix (mark ix m p) ps)) = rw (unlisted-free ix m p ps t) at q in
       ⊎-elim
-      (λ e. record { zero-mark = rw e (eqb-true _ _ t); member = here e })
+      (λ e. record { is-free = rw e t; member = here e })
       (λ j. old (listed-was (mark ix m p) ps (fits-mark m p ps f) i j))
       (in-cons q'))
       (λ t. later (listed-was m ps (λ k z. f k (there z)) i (rw (unlisted-taken ix m p ps t) at q)))
     where
       later : Was m ps i → Was m (p ∷ ps) i
-      later w = record { zero-mark = w .zero-mark; member = there (w .member) }
+      later w = record { is-free = w .is-free; member = there (w .member) }
 
       old : Was (mark ix m p) ps i → Was m (p ∷ ps) i
-      old w = record { zero-mark = same-mark (ℕ-discrete i (ix p)); member = there (w .member) }
+      old w = record { is-free = same-mark (ℕ-discrete i (ix p)); member = there (w .member) }
         where
-          same-mark : Dec (i ≡ ix p) → getD m i 0 ≡ 0
-          same-mark (yes e) = absurd (let z = mark-self m p i (f i (there (w .member))) e in let y = w .zero-mark in let n : ⊥ = omega arith in n)
-          same-mark (no n) = sym (getD-set-other m (ix p) i 1 0 n) ∙ w .zero-mark
+          same-mark : Dec (i ≡ ix p) → freeAt m i ≡ true
+          same-mark (yes e) = absurd (true≢false (sym (w .is-free) ∙ rw e (taken-self m (ix p) (rw e at (f i (there (w .member)))))))
+          same-mark (no n) = sym (free-other m (ix p) i n) ∙ w .is-free
 
   -- each index is listed at most once
   pub listed-once : (m : List ℕ) (ps : List P) → Fits m ps → NoRepeats (indexes (unlisted ix m ps))
@@ -114,9 +120,15 @@ module _ {P : Type 0} (ix : P → ℕ) where
       not-again : In (ix p) (indexes (unlisted ix (mark ix m p) ps)) → ⊥
       not-again q =
           let w = listed-was (mark ix m p) ps (fits-mark m p ps f) (ix p) q in
-          let y = w .zero-mark in
-          let z = mark-self m p (ix p) (f (ix p) (here refl)) refl in
-          omega arith
+          true≢false (sym (w .is-free) ∙ taken-self m (ix p) (f (ix p) (here refl)))
+
+  -- with no mark set and no index twice all is listed
+  pub unlisted-all : (m : List ℕ) (ps : List P) → NoRepeats (indexes ps) → ((i : ℕ) → In i (indexes ps) → freeAt m i ≡ true) → unlisted ix m ps ≡ ps
+  unfolding unlisted
+  unlisted-all m [] u z = refl
+  unlisted-all m (p ∷ ps) (more n u) z =
+      unlisted-free ix m p ps (z (ix p) (here refl))
+      ∙ ap (λ (l : List P). p ∷ l) (unlisted-all (mark ix m p) ps u (λ i q. free-other m (ix p) i (λ e. n (in-cast (sym e) q)) ∙ z i (there q)))
 
   -- listing two lists in turn is listing their join
   pub unlisted-append : (m : List ℕ) (ps qs : List P)
@@ -146,7 +158,7 @@ module _ {P : Type 0} (ix : P → ℕ) where
 
   listed-too : (m : List ℕ) (ps qs : List P) → Fits m ps → ((i : ℕ) → In i (indexes ps) → In i (indexes qs))
       → (i : ℕ) → In i (indexes (unlisted ix m ps)) → In i (indexes (unlisted ix m qs))
-  listed-too m ps qs f to i q = let w = listed-was m ps f i q in listed-of m qs i (w .zero-mark) (to i (w .member))
+  listed-too m ps qs f to i q = let w = listed-was m ps f i q in listed-of m qs i (w .is-free) (to i (w .member))
 
   -- two lists of positions with the same indexes
   module _ (m : List ℕ) (ps qs : List P) (f : Fits m ps)

@@ -1,4 +1,4 @@
--- Lists with no repeats, rearrangements, and what stands behind an element. Assumes nothing.
+-- Lists with no repeats, rearrangements, and what stands after an element. Assumes nothing.
 use mathlib.Core.Path.{_≡_, refl, sym, ap, _∙_}
 use mathlib.Core.List.{List, [], _∷_, _++_, map, List·Memᴰ as In, List·Memᴰ·head as here, List·Memᴰ·tail as there, List·Memᴰ·not-nil as not-in-nil, List·Memᴰ·cases-cons as in-cons, Memᴰ·cast as in-cast, Memᴰ·append-right as in-right, List·Memᴰ·append-cases as in-append}
 use mathlib.Core.Logic.{_⊎_, inl, inr, ⊎-elim, ite, if-pos, if-neg}
@@ -172,7 +172,7 @@ module _ {A : Type 0} (same : Discrete A) where
           ∙ f (⊎-elim (λ e. absurd (n e)) (λ j. j) (in-cons i))
           ∙ ap (λ (l : List A). l ++ ys) (sym (behind-there a x xs n))
 
-  -- what is behind is the end of the list
+  -- what is after is the end of the list
   pub behind-ends : (a : A) (xs : List A) → (before : List A) × (xs ≡ before ++ behind a xs)
   unfolding behind
   behind-ends a [] = ([], refl)

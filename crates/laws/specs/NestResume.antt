@@ -1,4 +1,4 @@
--- What stands behind a position in what a nest of loops lists: what is left of the nest when its loops start from that position's numbers. Assumes nothing.
+-- What stands after a position in what a nest of loops lists: what is left of the nest when its loops start from that position's numbers. Assumes nothing.
 use mathlib.Core.Path.{_≡_, _∙_}
 use mathlib.Core.List.{List, [], _∷_, List·Memᴰ as In, List·Memᴰ·eq-of-singleton as in-single}
 use Prim.Native.Nat.{ℕ}
@@ -32,7 +32,7 @@ module _ {P : Type 0} where
         ∙ rw (behind-here same q (l .put (l .get q) p) [] (in-single (r .1)), behind-axis (l .next p) (a .1 p) (l .from p) (l .to p) (l .get q) (r .0), e)
         (headed-same f (axis (l .next p) (l .next p (l .get q)) (l .to p)))
 
-    -- what is behind a position is what is left from its numbers on
+    -- what is after a position is what is left from its numbers on
     pub behind-nest : (ls : List (Loop P)) (ss : List (P → ℕ)) → Apart ls → (p : P) {q : P} → In q (nest ls p) → Resumes ls ss p q
         → behind same q (nest ls p) ≡ resumed ls ss p
     unfolding nest resumed

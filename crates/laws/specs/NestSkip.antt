@@ -1,4 +1,4 @@
--- A loop that goes up by one may go on behind numbers that list nothing, by whatever next was found. Assumes nothing.
+-- A loop that goes up by one may go on after numbers that list nothing, by whatever next was found. Assumes nothing.
 use mathlib.Core.Path.{_≡_, sym, ap, _∙_, fun-ext}
 use mathlib.Core.List.{List, [], _∷_, _++_}
 use mathlib.Core.Logic.{⊎-elim}
@@ -23,7 +23,7 @@ span-skip f z b =
     (eq-or-lt-of-le p))
 
 module _ {P : Type 0} (l : Loop P) (ls : List (Loop P)) (p : P) (plain : (x : ℕ) → l .next p x ≡ x + 1) where
-  -- what is left behind i is what is left from z on, where nothing between them lists anything
+  -- what is left after i is what is left from z on, where nothing between them lists anything
   pub later-skip : (i z : ℕ) → i < z → ((k : ℕ) → i < k → k < z → k < l .to p → nest ls (l .put k p) ≡ []) → later l ls p i ≡ later l ls p (z - 1)
   unfolding later
   later-skip i z h e =

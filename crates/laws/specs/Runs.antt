@@ -4,9 +4,9 @@ use mathlib.Core.Bool.{Bool, true, false}
 use mathlib.Core.List.{List, [], _∷_, _++_, append-assoc, append-nil, List·Memᴰ as In, List·Memᴰ·head as here, List·Memᴰ·tail as there, Memᴰ·append-right as in-right}
 use Prim.Native.Nat.{ℕ, zero, suc, _+_, _≤_, _<_}
 use native.Mathlib.Omega.{arith}
-use lib.ListN.{length, getD, set}
-use lib.Dec.{eqb}
+use lib.ListN.{length}
 use Rattle.laws.specs.Cases.{split}
+use Rattle.laws.specs.Marks.{freeAt, markAt}
 use Rattle.laws.specs.Lists.{NoRepeats, no-repeats-before, behind, behind-here, behind-past, behind-ends}
 
 pub data Cursor (P : Type 0) : Type 0 where
@@ -17,11 +17,6 @@ pub data Cursor (P : Type 0) : Type 0 where
 pub data Answer (P : Type 0) : Type 0 where
   Packet : P → Answer P
   Ended : Answer P
-
--- the first answer, or else the second
-abbrev pub orElse : {P : Type 0} → Answer P → Answer P → Answer P
-orElse (Packet p) b = Packet p
-orElse Ended b = b
 
 -- what a step answers and leaves
 pub record Step (P : Type 0) : Type 0 where
@@ -52,7 +47,7 @@ Admits ps (at p) = In p ps
 Admits ps ended = Unit {0}
 
 module _ {P : Type 0} (same : Discrete P) where
-  -- what is left behind a cursor
+  -- what is left after a cursor
   abbrev pub after : Cursor P → List P → List P
   after fresh ps = ps
   after (at p) ps = behind same p ps
@@ -66,10 +61,10 @@ module _ {P : Type 0} (same : Discrete P) where
 module _ {P : Type 0} (ix : P → ℕ) where
   -- p has no mark
   abbrev pub free : List ℕ → P → Bool
-  free m p = eqb (getD m (ix p) 0) 0
+  free m p = freeAt m (ix p)
 
   abbrev pub mark : List ℕ → P → List ℕ
-  mark m p = set m (ix p) 1
+  mark m p = markAt m (ix p)
 
   -- the first position that has no mark
   unfoldable pub seek : List ℕ → List P → Answer P
@@ -111,15 +106,6 @@ module _ {P : Type 0} (ix : P → ℕ) where
     unfolding unlisted
     unlisted-taken e = rw (unlisted, e)
 
-  -- one list, or else another
-  pub seek-append : (m : List ℕ) (a b : List P) → seek m (a ++ b) ≡ orElse (seek m a) (seek m b)
-  unfolding seek
-  seek-append m [] b = refl
-  seek-append m (p ∷ a) b =
-      split (free m p)
-      (λ e. rw (seek-free m p (a ++ b) e, seek-free m p a e))
-      (λ e. rw (seek-taken m p (a ++ b) e, seek-taken m p a e) (seek-append m a b))
-
   -- what is found is one of the list
   pub seek-in : (m : List ℕ) (ps : List P) (p : P) → seek m ps ≡ Packet p → In p ps
   unfolding seek
@@ -128,6 +114,15 @@ module _ {P : Type 0} (ix : P → ℕ) where
       split (free m q)
       (λ t. let k = seek-free m q ps t in let r : p ≡ q = cc in here r)
       (λ t. there (seek-in m ps p (sym (seek-taken m q ps t) ∙ e)))
+
+  -- and is free
+  pub seek-is-free : (m : List ℕ) (ps : List P) (p : P) → seek m ps ≡ Packet p → free m p ≡ true
+  unfolding seek
+  seek-is-free m [] p e = let z : _≡_ {A = ℕ} 0 1 = cc in absurd (let n : ⊥ = omega arith in n)
+  seek-is-free m (q ∷ ps) p e =
+      split (free m q)
+      (λ t. let k = seek-free m q ps t in let r : p ≡ q = cc in rw r t)
+      (λ t. seek-is-free m ps p (sym (seek-taken m q ps t) ∙ e))
 
   pub unlisted-shorter : (m : List ℕ) (ps : List P) → length (unlisted m ps) ≤ length ps
   unfolding unlisted
@@ -162,7 +157,7 @@ module _ {P : Type 0} (same : Discrete P) (ix : P → ℕ) where
   toCome ps m (Packet p) = p ∷ unlisted ix (mark ix m p) (after same (at p) ps)
   toCome ps m Ended = []
 
-  -- what a search behind a cursor finds is a position of the list
+  -- what a search after a cursor finds is a position of the list
   pub found-in : (ps : List P) (m : List ℕ) (c : Cursor P) (p : P) → seek ix m (after same c ps) ≡ Packet p → In p ps
   found-in ps m c p e = let w = after-ends same c ps in rw (w .1) (in-right (w .0) (seek-in ix m (after same c ps) p e))
 
@@ -222,7 +217,7 @@ module _ {P : Type 0} (same : Discrete P) (ix : P → ℕ) where
         run-by n ps m c Ended e
         ∙ ap (λ (l : List P). record { packets = l; cursor = ended; marks = marked ix m l }) (sym (to-come m c Ended e))
 
-    -- a run from any cursor lists what is unlisted behind it, marks these, and ends
+    -- a run from any cursor lists what is unlisted after it, marks these, and ends
     pub run-from : (n : ℕ) (m : List ℕ) (c : Cursor P) → length (unlisted ix m (after same c ps)) < n → run n ps m c ≡ finished ix m (after same c ps)
     run-from zero m c h = absurd (let z : ⊥ = omega arith in z)
     run-from (suc n) m c h = run-found n m c _ refl h (run-from n)

@@ -9,14 +9,14 @@ use Rattle.laws.specs.Gather.{gather-map}
 use Rattle.laws.specs.Gathered.{gathered-all}
 use Rattle.laws.specs.Runs.{unlisted}
 use Rattle.laws.specs.AllRuns.{joined, unlisted-dedupe}
-use Rattle.laws.specs.Zeros.{zeros-most, unlisted-few}
+use Rattle.laws.specs.Frees.{frees-most, unlisted-few}
 use Rattle.packets.specs.Tile.{indexOf, needed}
 use Rattle.packets.specs.Sound.{positionsFor}
 use Rattle.packets.specs.Calls.{listed}
 use Rattle.packets.specs.Meaning.{Sound}
-use Rattle.packets.specs.declared.state.State.{State}
-use Rattle.packets.specs.declared.cursor.Position.{Position}
-use Rattle.walks.specs.Running.{mark-needed}
+use Rattle.packets.specs.Turns.{mark-needed}
+use Rattle.types.specs.declared.state.State.{State}
+use Rattle.types.specs.declared.cursor.Position.{Position}
 
 module _ (st : State) (table marks : List ℕ) (d : Sound st table marks) (clear : (i : ℕ) → i < needed st → getD marks i 0 ≡ 0) where
   all : List Position
@@ -33,5 +33,5 @@ module _ (st : State) (table marks : List ℕ) (d : Sound st table marks) (clear
   listed-few =
       let same = unlisted-dedupe (indexOf st) (needed st) marks all (d .marks-long) clear (λ i q. let r = in-of-map (indexOf st) all q in subst (λ (n : ℕ). n < needed st) (r .2) (below (r .0) (r .1))) in
       let few = unlisted-few (indexOf st) (needed st) marks all (λ p i. let b = below p i in (b, omega (arith, b, d .marks-long))) in
-      let all-few : length (unlisted (indexOf st) marks all) ≤ needed st = omega (arith, few, zeros-most (needed st) marks) in
+      let all-few : length (unlisted (indexOf st) marks all) ≤ needed st = omega (arith, few, frees-most (needed st) marks) in
       rw same at all-few

@@ -40,7 +40,7 @@ lines-more output at (suc n) =
     let e : at + 16 + 16 * n ≡ at + 16 * suc n = omega arith in
     rw (lines-more output (at + 16) n, e) (sym (append-assoc (lineAt output at) (linesAt output (at + 16) n) (lineAt output (at + 16 * suc n))))
 
--- put line by line, and the count behind them
+-- put line by line, and the count after them
 pub lines-none : (output : List ℕ) → [] ≡ linesAt output 0 0
 unfolding linesAt
 lines-none output = refl

@@ -1,4 +1,4 @@
--- Zeros behind the table say nothing: what is listed is the same. Assumes nothing.
+-- Zeros after the table say nothing: what is listed is the same. Assumes nothing.
 use mathlib.Core.Path.{_≡_, refl, sym, ap, fun-ext, _∙_}
 use mathlib.Core.List.{List, _++_, map}
 use mathlib.Core.Logic.{⊎-elim}
@@ -17,8 +17,8 @@ use Rattle.packets.specs.Positions.{positionsOf}
 use Rattle.packets.specs.Table.{sheetAt, tableOf, entryWord}
 use Rattle.packets.specs.Readback.{table-length}
 use Rattle.packets.specs.Calls.{listed}
-use Rattle.packets.specs.declared.state.State.{State}
-use Rattle.packets.specs.declared.cursor.Position.{Position}
+use Rattle.types.specs.declared.state.State.{State}
+use Rattle.types.specs.declared.cursor.Position.{Position}
 
 abbrev Zeros : List ℕ → Type 0
 Zeros l = (i : ℕ) → getD l i 0 ≡ 0
@@ -38,7 +38,7 @@ zero-word l z at =
     (λ h. word-none l at h)
     (le-or-lt (at + 4) (length l))
 
--- a word of whole words, with zeros behind them
+-- a word of whole words, with zeros after them
 padded-word : (xs zs : List ℕ) (m : ℕ) → length xs ≡ 4 * m → Zeros zs → (i : ℕ) → wordAt (xs ++ zs) (4 * i) ≡ wordAt xs (4 * i)
 padded-word xs zs m e z i =
     ⊎-elim

@@ -20,8 +20,8 @@ use Rattle.packets.specs.Calls.{refusal, accepted, setupVerdict, listed, record
 use Rattle.packets.specs.Meaning.{Sound, sound-means}
 use Rattle.packets.specs.Text.{decimal, linesOf, refusedLine, textOf}
 use Rattle.packets.specs.WholeRun.{Passed, setup-passed, accepted-sound, accepted-clear, run-refuses}
-use Rattle.packets.specs.declared.state.State.{State}
-use Rattle.packets.specs.declared.cursor.Position.{Position}
+use Rattle.types.specs.declared.state.State.{State}
+use Rattle.types.specs.declared.cursor.Position.{Position}
 use Rattle.listing.specs.Lines.{linesAt}
 use Rattle.listing.specs.Records.{output-lines}
 use Rattle.listing.specs.Padded.{padded-listed}

@@ -1,4 +1,4 @@
--- A part put into a buffer behind what is there. Assumes nothing.
+-- A part put into a buffer after what is there. Assumes nothing.
 use mathlib.Core.Path.{_≡_, refl, sym, ap, _∙_}
 use mathlib.Core.List.{List, [], _∷_, _++_, append-assoc, append-nil}
 use Prim.Native.Nat.{ℕ, suc, _+_, _≤_, _<_}
@@ -12,7 +12,7 @@ pub record Put (old : List ℕ) (at : ℕ) (new : List ℕ) (r : ℕ) (part : Li
   pub place : r ≡ at + length part
   pub front : take r new ≡ take at old ++ part
 
--- one part behind the other
+-- one part after the other
 pub put-both : {a b c x y : List ℕ} {i j k : ℕ} → Put a i b j x → Put b j c k y → Put a i c k (x ++ y)
 put-both {a} {b} {c} {x} {y} {i} p q =
     record {

@@ -11,10 +11,10 @@ use Rattle.words.specs.Words.{wordsBytes, over}
 use Rattle.words.specs.Laws.{Bytes, word-of, word-behind}
 use Rattle.packets.specs.Calls.{packetWords, recordsOf}
 use Rattle.packets.specs.Text.{decimal, lineOf, linesOf}
-use Rattle.packets.specs.declared.cursor.Position.{Position}
+use Rattle.types.specs.declared.cursor.Position.{Position}
 use Rattle.listing.specs.Lines.{lineAt, linesAt}
 
--- behind other bytes
+-- after other bytes
 line-behind : (xs ys : List ℕ) (at : ℕ) → lineAt (xs ++ ys) (length xs + at) ≡ lineAt ys at
 line-behind xs ys at =
     rw (add-assoc (length xs) at 4, add-assoc (length xs) at 8, add-assoc (length xs) at 12, word-behind xs ys at, word-behind xs ys (at + 4), word-behind xs ys (at + 8), word-behind xs ys (at + 12))

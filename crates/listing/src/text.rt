@@ -1,4 +1,4 @@
-// What is printed, as text in a lent buffer. Each function puts its part from a place on and answers the place behind it.
+// What is printed, as text in a lent buffer. Each function puts its part from a place on and answers the place after it.
 use words::word_at;
 ghost use Prim.Native.Nat.{_+_, _*_, _≤_};
 ghost use mathlib.Core.Path.{_≡_};
@@ -22,16 +22,16 @@ fn put(text: &mut [u8], at: usize, part: &[u8]) -> usize
     at + i
 }
 
-// A number in decimal, which has at most ten digits, and a byte behind it.
-fn put_number(text: &mut [u8], at: usize, n: u32, behind: u8) -> usize
+// A number in decimal, which has at most ten digits, and a byte after it.
+fn put_number(text: &mut [u8], at: usize, n: u32, last: u8) -> usize
     requires { ⌜ at + 11 ≤ length (now text) ⌝ }
-    ensures puts { λ r. ⌜ Put (now (text .entry)) at (now (text .exit)) r (decimal n ++ behind ∷ []) ⌝ }
+    ensures puts { λ r. ⌜ Put (now (text .entry)) at (now (text .exit)) r (decimal n ++ last ∷ []) ⌝ }
     ensures near { λ r. ⌜ r ≤ at + 11 ⌝ }
 {
     let mut digits = [0u8; 20];
     let k = io::decimal(n as u64, &mut digits);
     let next = put(text, at, &digits[..k]);
-    put(text, next, &[behind])
+    put(text, next, &[last])
 }
 
 // The line of the packet whose record starts at place from of the output.
@@ -84,7 +84,7 @@ pub(crate) fn listing(sheet: &[u8], text: &mut [u8]) -> usize
     let mut table = [0u8; 8448];
     let mut marks = [0u8; 2048];
     let mut output = [0u8; 32768];
-    let number = walks::whole::whole_run(sheet, &mut table, &mut marks, &mut output);
+    let number = calls::whole::whole_run(sheet, &mut table, &mut marks, &mut output);
     if number < 0 {
         return put_refusal(text, (!number) as u32 + 1);
     }

@@ -9,10 +9,10 @@ use native.Mathlib.Omega.{arith}
 use lib.ListN.{length}
 use borrow.Author.Tests.{lt-ltb, le-leb, eq-eqb}
 use Rattle.laws.specs.Cases.{and-both}
-use Rattle.packets.specs.Sheet.{wd, Due, due, recordVerdict, dueBehind, readFrom, readVerdict, lengthGood, componentVerdict, resolutionVerdict, progressionVerdict, componentRecord, resolutionRecord, progressionRecord}
+use Rattle.packets.specs.Sheet.{wd, Due, due, recordVerdict, dueAfter, readFrom, readVerdict, lengthGood, componentVerdict, resolutionVerdict, progressionVerdict, componentRecord, resolutionRecord, progressionRecord}
 use Rattle.packets.specs.Reading.{Read, read-good}
 
--- the verdicts of n + 1 records from record i on: of the first, and of those behind it
+-- the verdicts of n + 1 records from record i on: of the first, and of those after it
 module _ (v : ℕ → ℕ) (n i : ℕ) (h : (j : ℕ) → j < suc n → v (i + j) ≡ 0) where
   first : v i ≡ 0
   first = let e : i + 0 ≡ i = omega arith in rw e at (h 0 (omega arith))
@@ -22,21 +22,21 @@ module _ (v : ℕ → ℕ) (n i : ℕ) (h : (j : ℕ) → j < suc n → v (i + j
 
 module _ (s : List ℕ) (count : ℕ) where
   -- a good record lets the reading go on
-  go-on : (n i : ℕ) (d : Due) → recordVerdict s count i d ≡ 0 → readFrom s count n (i + 1) (dueBehind s i d) ≡ 0 → readFrom s count (suc n) i d ≡ 0
+  go-on : (n i : ℕ) (d : Due) → recordVerdict s count i d ≡ 0 → readFrom s count n (i + 1) (dueAfter s i d) ≡ 0 → readFrom s count (suc n) i d ≡ 0
   unfolding readFrom
   go-on n i d e f = rw e f
 
   -- by what is due
   on-r : (n i r c p : ℕ) → resolutionVerdict s i ≡ 0 → readFrom s count n (i + 1) (due r c p) ≡ 0 → readFrom s count (suc n) i (due (suc r) c p) ≡ 0
-  unfolding recordVerdict dueBehind
+  unfolding recordVerdict dueAfter
   on-r n i r c p e f = let t = lt-ltb 0 (suc r) (omega arith) in let back : suc r - 1 ≡ r = omega arith in go-on n i (due (suc r) c p) (rw t e) (rw (t, back) f)
 
   on-c : (n i c p : ℕ) → componentVerdict s i ≡ 0 → readFrom s count n (i + 1) (due (wd s i 3) c p) ≡ 0 → readFrom s count (suc n) i (due 0 (suc c) p) ≡ 0
-  unfolding recordVerdict dueBehind
+  unfolding recordVerdict dueAfter
   on-c n i c p e f = let t = lt-ltb 0 (suc c) (omega arith) in let back : suc c - 1 ≡ c = omega arith in go-on n i (due 0 (suc c) p) (rw t e) (rw (t, back) f)
 
   on-p : (n i p : ℕ) → progressionVerdict s count i ≡ 0 → readFrom s count n (i + 1) (due 0 0 p) ≡ 0 → readFrom s count (suc n) i (due 0 0 (suc p)) ≡ 0
-  unfolding recordVerdict dueBehind
+  unfolding recordVerdict dueAfter
   on-p n i p e f = let t = lt-ltb 0 (suc p) (omega arith) in let back : suc p - 1 ≡ p = omega arith in go-on n i (due 0 0 (suc p)) (rw t e) (rw back f)
 
   -- p progressions, and nothing left over

@@ -15,17 +15,20 @@ use Rattle.laws.specs.Least.{min-has, min-below}
 use Rattle.laws.specs.Stride.{stride}
 use Rattle.laws.specs.Nest.{nest}
 use Rattle.laws.specs.NestOnce.{Within}
-use Rattle.packets.specs.State.{origin}
+use Rattle.types.specs.State.{origin}
 use Rattle.packets.specs.Tile.{Sheet, dxOf, dyOf, levelOf, resOf}
-use Rattle.packets.specs.Orders.{Order, lrcp, rlcp, rpcl, pcrl, cprl, other, Range, componentsGood}
+use Rattle.types.specs.Orders.{componentsGood}
+use Rattle.types.specs.declared.order.Order.{Order}
+use Rattle.types.specs.declared.order.Order.the-variants.{Lrcp as lrcp, Rlcp as rlcp, Rpcl as rpcl, Pcrl as pcrl, Cprl as cprl, NoPositions as other}
+use Rattle.types.specs.declared.order.Range.{Range}
 use Rattle.packets.specs.Grid.{stepX, stepY, smallest, smallestOf, stepsFit, stepsDivide, agreed}
 use Rattle.packets.specs.Positions.{loopsOf, hasPositions, positionsIn}
 use Rattle.packets.specs.Good.{Good}
 use Rattle.packets.specs.Strided.{For, oneResolution, oneComponent, everything, pointsFor, outerLoops, Hit, PassesNoHit, strided, strided-positions, strided-listed}
 use Rattle.packets.specs.Inside.{has-good}
 use Rattle.packets.specs.NextHits.{met-has, has-precincts, divisors-pass}
-use Rattle.packets.specs.declared.state.State.{State}
-use Rattle.packets.specs.declared.cursor.Position.{Position}
+use Rattle.types.specs.declared.state.State.{State}
+use Rattle.types.specs.declared.cursor.Position.{Position}
 
 -- 01'S STRIDE. The smallest step over all components, or for CPRL over the one component
 abbrev pub sourceStep : (ℕ → ℕ → ℕ) → State → For → Position → ℕ

@@ -7,9 +7,11 @@ use lib.Dec.{leb, eqb}
 use Rattle.laws.specs.Below.{allBelow, minBelow}
 use Rattle.laws.specs.Pointwise.{all-same, max-same, min-same}
 use Rattle.geometry.specs.Line.{Line, step}
-use Rattle.packets.specs.State.{noProgression}
+use Rattle.types.specs.State.{noProgression}
 use Rattle.packets.specs.Tile.{Sheet, resOf, lineX, lineY, precincts, maxPrec, maxRes, dxMin, dyMin, fitting}
-use Rattle.packets.specs.Orders.{Order, lrcp, rlcp, rpcl, pcrl, cprl, other, orderOf}
+use Rattle.types.specs.Orders.{orderOf}
+use Rattle.types.specs.declared.order.Order.{Order}
+use Rattle.types.specs.declared.order.Order.the-variants.{Lrcp as lrcp, Rlcp as rlcp, Rpcl as rpcl, Pcrl as pcrl, Cprl as cprl, NoPositions as other}
 use Rattle.packets.specs.Grid.{everywhere, stepX, stepY, smallest, stepsFit, stepsDivide, agreed, changeOf, gridAgreed}
 
 -- two sheets with the same tile and components, whose resolutions see the same axes

@@ -5,16 +5,16 @@ use mathlib.Core.Option.{Option, some, none}
 use Prim.Native.Nat.{zero, suc}
 use lib.Dec.{eqb}
 use lib.IntN.{ℤ, pos, negsuc}
-use Rattle.packets.specs.Answers.{numberOf, SetUpSaid, ofSetUp, OpenSaid, ofOpened, StepSaid, ofStepped}
-use Rattle.packets.specs.declared.cursor.Cursor.{Cursor}
-use Rattle.packets.specs.declared.answer.Verdict.{Verdict}
-use Rattle.packets.specs.declared.answer.Verdict.the-variants as verdict
-use Rattle.packets.specs.declared.answer.SetUp.{SetUp}
-use Rattle.packets.specs.declared.answer.Opened.{Opened}
-use Rattle.packets.specs.declared.answer.Opened.the-variants as opened
-use Rattle.packets.specs.declared.answer.Stepped.{Stepped}
-use Rattle.packets.specs.declared.answer.Stepped.the-variants as stepped
-use Rattle.packets.specs.declared.cursor.Position.{Position}
+use Rattle.types.specs.Answers.{numberOf, SetUpSaid, ofSetUp, OpenSaid, ofOpened, StepSaid, ofStepped}
+use Rattle.types.specs.declared.cursor.Cursor.{Cursor}
+use Rattle.types.specs.declared.answer.Verdict.{Verdict}
+use Rattle.types.specs.declared.answer.Verdict.the-variants as verdict
+use Rattle.types.specs.declared.answer.SetUp.{SetUp}
+use Rattle.types.specs.declared.answer.Opened.{Opened}
+use Rattle.types.specs.declared.answer.Opened.the-variants as opened
+use Rattle.types.specs.declared.answer.Stepped.{Stepped}
+use Rattle.types.specs.declared.answer.Stepped.the-variants as stepped
+use Rattle.types.specs.declared.cursor.Position.{Position}
 
 -- a verdict from its number
 byNumber : ℤ → Verdict

@@ -1,6 +1,5 @@
 -- Tile bounds as the C host asks for them (01, 'Tile bounds').
-use mathlib.Core.Path.{_≡_, refl}
-use mathlib.Core.Bool.{Bool, true, false, cond}
+use mathlib.Core.Bool.{cond}
 use mathlib.Core.List.{List}
 use Prim.Native.Nat.{ℕ}
 use lib.ListN.{length}
@@ -28,17 +27,3 @@ writtenBy (negsuc n) words output = record { number = negsuc n; output = output 
 
 unfoldable pub boundsOf : Area → Grid → ℕ → List ℕ → Bounds
 boundsOf image g n output = let said : Said = tileBoundsOf image g n in writtenBy (said .number) (said .values) output
-
--- a refusal changes nothing
-pub bounds-refuses : (image : Area) (g : Grid) (n : ℕ) (output : List ℕ) → (boundsOf image g n output .number ≡ pos 0 → ⊥) → boundsOf image g n output .output ≡ output
-unfolding boundsOf
-bounds-refuses image g n output = by (tileBoundsOf image g n .number) (tileBoundsOf image g n .values)
-  where
-    kept : (t : Bool) (new : List ℕ)
-        → (let b : Bounds = cond t (record { number = pos 0; output = new }) (record { number = refusal 8; output = output }) in (b .number ≡ pos 0 → ⊥) → b .output ≡ output)
-    kept true new h = absurd (h refl)
-    kept false new h = refl
-
-    by : (z : ℤ) (words : List ℕ) → (writtenBy z words output .number ≡ pos 0 → ⊥) → writtenBy z words output .output ≡ output
-    by (pos m) words h = kept (leb 16 (length output)) (over (wordsBytes words) output) h
-    by (negsuc m) words h = refl

@@ -11,20 +11,20 @@ use Rattle.laws.specs.Axis.{span}
 use Rattle.laws.specs.Lists.{behind}
 use Rattle.laws.specs.Runs.{Answer, Packet, Ended, seek, mark, marked}
 use Rattle.laws.specs.AllRuns.{joined, dedupe}
-use Rattle.packets.specs.State.{emptyState, freshCursor, endedCursor}
+use Rattle.types.specs.State.{emptyState, freshCursor, endedCursor}
 use Rattle.words.specs.Words.{wordsBytes, over}
 use Rattle.packets.specs.Sheet.{readVerdict}
 use Rattle.packets.specs.Tile.{reported, needed, indexOf, tableBytes}
 use Rattle.packets.specs.Grid.{gridAgreed}
 use Rattle.packets.specs.Table.{sheetIn, tableOf}
-use Rattle.packets.specs.Answers.{SetUpSaid, OpenSaid, StepSaid}
+use Rattle.types.specs.Answers.{SetUpSaid, OpenSaid, StepSaid}
 use Rattle.packets.specs.Sound.{stateSound, sound, positionsFor}
 use Rattle.packets.specs.Same.{same}
-use Rattle.packets.specs.declared.state.State.{State}
-use Rattle.packets.specs.declared.cursor.Position.{Position}
-use Rattle.packets.specs.declared.cursor.Place.{Place}
-use Rattle.packets.specs.declared.cursor.Place.the-variants as place
-use Rattle.packets.specs.declared.cursor.Cursor.{Cursor}
+use Rattle.types.specs.declared.state.State.{State}
+use Rattle.types.specs.declared.cursor.Position.{Position}
+use Rattle.types.specs.declared.cursor.Place.{Place}
+use Rattle.types.specs.declared.cursor.Place.the-variants as place
+use Rattle.types.specs.declared.cursor.Cursor.{Cursor}
 
 -- 01: a refusal is its number, negated
 abbrev pub refusal : ℕ → ℤ

@@ -16,14 +16,17 @@ use Rattle.laws.specs.Below.{allBelow, sumBelow, maxBelow, minBelow}
 use Rattle.laws.specs.Least.{least}
 use Rattle.laws.specs.Nest.{nest}
 use Rattle.laws.specs.Runs.{seek}
+use Rattle.laws.specs.Marks.{freeByte, markedByte, freeAt, markAt}
 use Rattle.laws.specs.AllRuns.{has, unseen, joined, dedupe}
 use Rattle.words.specs.Words.{wordAt, wordsBytes}
 use Rattle.geometry.specs.Precinct.{across}
 use Rattle.geometry.specs.Line.{boundOf, count, hitAt, columnOf}
-use Rattle.packets.specs.State.{freshCursor, origin}
-use Rattle.packets.specs.Sheet.{recordVerdict, dueBehind, readFrom, readVerdict, componentRecord, progressionAt, fieldsOf}
+use Rattle.types.specs.State.{freshCursor, origin}
+use Rattle.packets.specs.Sheet.{recordVerdict, dueAfter, readFrom, readVerdict, componentRecord, progressionAt, fieldsOf}
 use Rattle.packets.specs.Tile.{Sheet, width, height, resOf, maxPrec, maxRes, dxMin, dyMin, reported, needed, indexOf, entriesBefore, tableBytes}
-use Rattle.packets.specs.Orders.{Order, orderOf, Range, rangeOf}
+use Rattle.types.specs.Orders.{orderOf, rangeOf}
+use Rattle.types.specs.declared.order.Order.{Order}
+use Rattle.types.specs.declared.order.Range.{Range}
 use Rattle.packets.specs.Grid.{changeOf, stepsFit, stepsDivide, gridAgreed}
 use Rattle.packets.specs.Positions.{met, numberAt, positionsIn, hasPositions}
 use Rattle.packets.specs.Table.{tableOf, sheetIn, sheetAt}
@@ -33,11 +36,11 @@ use Rattle.packets.specs.Calls.{Setup, Step, setupVerdict, setupOf, refu
 use Rattle.packets.specs.Text.{textOf, digitsUpTo}
 use Rattle.packets.specs.Strided.{strided, pointsFor}
 use Rattle.packets.specs.InPlay.{nextX, nextY, nextInPlay, in-play-listed}
-use Rattle.packets.specs.declared.state.State.{State}
-use Rattle.packets.specs.declared.cursor.Position.{Position}
-use Rattle.packets.specs.declared.cursor.Place.{Place}
-use Rattle.packets.specs.declared.cursor.Place.the-variants as place
-use Rattle.packets.specs.declared.cursor.Cursor.{Cursor}
+use Rattle.types.specs.declared.state.State.{State}
+use Rattle.types.specs.declared.cursor.Position.{Position}
+use Rattle.types.specs.declared.cursor.Place.{Place}
+use Rattle.types.specs.declared.cursor.Place.the-variants as place
+use Rattle.types.specs.declared.cursor.Cursor.{Cursor}
 
 -- SHEETS. A record from its words, zeros at the end omitted; a sheet from its records
 abbrev pub recordBytes : List ℕ → List ℕ
@@ -82,7 +85,7 @@ layer l x = at l 0 0 0 0 0 ∷ at l 0 0 1 x 0 ∷ at l 1 0 0 0 0 ∷ at l 1 0 1 
 
 -- to unfold this is to unfold all that reads a sheet and lists its positions
 computed : ℕ
-unfolding setupVerdict readVerdict readFrom recordVerdict dueBehind wordAt wordsBytes gather allBelow sumBelow maxBelow minBelow componentRecord progressionAt fieldsOf maxPrec maxRes dxMin dyMin reported needed indexOf entriesBefore rangeOf stepsFit stepsDivide gridAgreed met numberAt tableOf nest axis goUp has unseen across boundOf count hitAt columnOf
+unfolding setupVerdict readVerdict readFrom recordVerdict dueAfter wordAt wordsBytes gather allBelow sumBelow maxBelow minBelow componentRecord progressionAt fieldsOf maxPrec maxRes dxMin dyMin reported needed indexOf entriesBefore rangeOf stepsFit stepsDivide gridAgreed met numberAt tableOf nest axis goUp has unseen across boundOf count hitAt columnOf
 computed = 0
 
 -- A ROW: a sheet in words; the number that setup answers; where it is accepted, the marks needed, the width and height of every resolution, the packets in
@@ -179,7 +182,7 @@ answering go marks c (n ∷ ns) rest =
     sameNumber (u .said .number) (pos n)
     && (moved (u .said .packet) (u .said .cursor .place) && answering go (u .marks) (u .said .cursor) ns rest)
 
--- so for progression k and those behind it, in turn
+-- so for progression k and those after it, in turn
 abbrev inTurn : (List ℕ → Cursor → Step) → List ℕ → ℕ → List (List ℕ) → Bool
 inTurn go marks k [] = true
 inTurn go marks k (ns ∷ nss) = answering go marks (freshCursor k) ns (λ m. inTurn go m (k + 1) nss)
@@ -238,7 +241,7 @@ unfolding listedBy stepVia positionsBy listed stepOf sound cursorSound
 by-in-play rs = subst (λ (f : Sheet → Range → Order → List Position). allBy (listedBy f) (stepVia f) rs ≡ true) in-play
 
 in-play-hold : allBy (listedBy inPlay) (stepVia inPlay) rows ≡ true
-unfolding computed rows allBy holdsBy inPlay listedBy stepVia positionsBy setupOf stateSound isIn componentsSound progressionsSound tableSound entrySound reportsSound same decided behind seek nextInPlay least
+unfolding computed rows allBy holdsBy inPlay listedBy stepVia positionsBy setupOf stateSound isIn componentsSound progressionsSound tableSound entrySound reportsSound same decided behind freeByte markedByte freeAt markAt seek nextInPlay least
 in-play-hold = refl
 
 -- THEOREM: P-a to P-l hold

@@ -18,13 +18,16 @@ use Rattle.laws.specs.NestOnce.{Apart}
 use Rattle.laws.specs.NestFixed.{Blind, nest-fixed, fixed-two}
 use Rattle.geometry.specs.Hits.{Ordered}
 use Rattle.geometry.specs.Raster.{Point, point, raster, MetOnce, raster-numbers, raster-each}
-use Rattle.packets.specs.State.{origin}
+use Rattle.types.specs.State.{origin}
 use Rattle.packets.specs.Tile.{Sheet, resOf, lineX, lineY, width, height, precincts}
-use Rattle.packets.specs.Orders.{Order, lrcp, rlcp, rpcl, pcrl, cprl, other, Range, componentsGood}
+use Rattle.types.specs.Orders.{componentsGood}
+use Rattle.types.specs.declared.order.Order.{Order}
+use Rattle.types.specs.declared.order.Order.the-variants.{Lrcp as lrcp, Rlcp as rlcp, Rpcl as rpcl, Pcrl as pcrl, Cprl as cprl, NoPositions as other}
+use Rattle.types.specs.declared.order.Range.{Range}
 use Rattle.packets.specs.Positions.{met, numberAt, layers, resolutions, components, rows, columns, thePrecinct, loopsOf, hasPositions, positionsIn}
 use Rattle.packets.specs.Good.{Good}
 use Rattle.packets.specs.Standard.{tested, ownCounter, sameCounter, nextPrecincts, layersOf, counting, standardLoops, standardIn}
-use Rattle.packets.specs.declared.cursor.Position.{Position}
+use Rattle.types.specs.declared.cursor.Position.{Position}
 
 decides : Decides sameCounter
 decides =

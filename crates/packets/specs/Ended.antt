@@ -11,9 +11,11 @@ use Rattle.laws.specs.Gather.{keep}
 use Rattle.laws.specs.Members.{keep-all}
 use Rattle.laws.specs.Nest.{nest}
 use Rattle.laws.specs.NestCut.{cut-nest}
-use Rattle.packets.specs.State.{origin}
+use Rattle.types.specs.State.{origin}
 use Rattle.packets.specs.Tile.{Sheet, resOf}
-use Rattle.packets.specs.Orders.{Order, lrcp, rlcp, rpcl, pcrl, cprl, other, Range}
+use Rattle.types.specs.declared.order.Order.{Order}
+use Rattle.types.specs.declared.order.Order.the-variants.{Lrcp as lrcp, Rlcp as rlcp, Rpcl as rpcl, Pcrl as pcrl, Cprl as cprl, NoPositions as other}
+use Rattle.types.specs.declared.order.Range.{Range}
 use Rattle.packets.specs.Positions.{layers, resolutions, components, rows, columns, everyPrecinct, thePrecinct, loopsOf, hasPositions, positionsIn}
 use Rattle.packets.specs.Good.{Good}
 use Rattle.packets.specs.Inside.{inside}

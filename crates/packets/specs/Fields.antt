@@ -9,8 +9,9 @@ use lib.Dec.{eqb}
 use Rattle.laws.specs.Cases.{and-true, and-both}
 use Rattle.laws.specs.Below.{all-at}
 use Rattle.laws.specs.Pointwise.{all-true, filled-at, filled-beyond}
-use Rattle.packets.specs.State.{noProgression}
-use Rattle.packets.specs.Sheet.{wd, judged, unnamed, componentRange, exponentRange, progressionRange, componentRecord, resolutionRecord, progressionRecord, progressionAt, fieldsOf, volumeVerdict, wholeTileVerdict}
+use Rattle.types.specs.State.{noProgression}
+use Rattle.types.specs.Ranges.{componentRange, exponentRange, progressionRange}
+use Rattle.packets.specs.Sheet.{wd, judged, unnamed, componentRecord, resolutionRecord, progressionRecord, progressionAt, fieldsOf, volumeVerdict, wholeTileVerdict}
 use Rattle.packets.specs.Tile.{dxOf, dyOf, resOf}
 use Rattle.packets.specs.Grid.{changeOf}
 use Rattle.packets.specs.Sound.{tileGood, componentsSound, progressionsSound, progressionGood}

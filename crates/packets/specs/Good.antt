@@ -8,5 +8,5 @@ pub record Good (s : Sheet) : Type 0 where
   pub upward-y : s .st .ty0 ≤ s .st .ty1
   pub step-x : (c : ℕ) → c < s .st .components → 1 ≤ dxOf (s .st) c
   pub step-y : (c : ℕ) → c < s .st .components → 1 ≤ dyOf (s .st) c
-  pub most : s .st .«max_prec» ≡ maxPrec s
-  pub deepest : s .st .«max_res» ≡ maxRes (s .st)
+  pub most : s .st .reports .«max_prec» ≡ maxPrec s
+  pub deepest : s .st .reports .«max_res» ≡ maxRes (s .st)

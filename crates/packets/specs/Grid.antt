@@ -5,11 +5,13 @@ use lib.ListN.{getD}
 use lib.Dec.{leb, eqb}
 use Rattle.laws.specs.Below.{allBelow, minBelow}
 use Rattle.geometry.specs.Line.{step}
-use Rattle.packets.specs.State.{noProgression}
+use Rattle.types.specs.State.{noProgression}
 use Rattle.packets.specs.Tile.{Sheet, lineX, lineY, resOf}
-use Rattle.packets.specs.Orders.{Order, lrcp, rlcp, rpcl, pcrl, cprl, other, orderOf}
-use Rattle.packets.specs.declared.state.Progression.{Progression}
-use Rattle.packets.specs.declared.state.State.{State}
+use Rattle.types.specs.Orders.{orderOf}
+use Rattle.types.specs.declared.order.Order.{Order}
+use Rattle.types.specs.declared.order.Order.the-variants.{Lrcp as lrcp, Rlcp as rlcp, Rpcl as rpcl, Pcrl as pcrl, Cprl as cprl, NoPositions as other}
+use Rattle.types.specs.declared.state.Progression.{Progression}
+use Rattle.types.specs.declared.state.State.{State}
 
 -- a test of every resolution of every component
 abbrev pub everywhere : State → (ℕ → ℕ → Bool) → Bool

@@ -1,15 +1,19 @@
 -- What a host does with a state: it opens each progression in turn and steps until the answer is no packet, over the same table and marks.
+-- Every number that comes back is kept.
 use Prim.Native.Nat.{ℕ, zero, suc, _+_}
-use mathlib.Core.List.{List, [], _∷_, _++_}
+use mathlib.Core.List.{List, [], _∷_}
 use mathlib.Core.Option.{Option, some, none}
-use Rattle.laws.specs.AllRuns.{Listing}
+use lib.IntN.{ℤ}
+use Rattle.laws.specs.Gather.{gather}
+use Rattle.types.specs.Answers.{OpenSaid}
 use Rattle.packets.specs.Calls.{Step, openOf, stepOf}
-use Rattle.packets.specs.declared.state.State.{State}
-use Rattle.packets.specs.declared.cursor.Position.{Position}
-use Rattle.packets.specs.declared.cursor.Cursor.{Cursor}
+use Rattle.types.specs.declared.state.State.{State}
+use Rattle.types.specs.declared.cursor.Position.{Position}
+use Rattle.types.specs.declared.cursor.Cursor.{Cursor}
 
--- the packets that steps answered, the cursor and the marks that they left
+-- steps: the number of each, the packets, the cursor and the marks that they left
 pub record Called : Type 0 where
+  pub numbers : List ℤ
   pub packets : List Position
   pub cursor : Cursor
   pub marks : List ℕ
@@ -18,29 +22,57 @@ pub record Called : Type 0 where
 abbrev pub followed : Step → Called → Called
 followed u rest =
     elim (u .said .packet) [
-      | some p ↦ record { packets = p ∷ rest .packets; cursor = rest .cursor; marks = rest .marks }
-      | none ↦ record { packets = []; cursor = u .said .cursor; marks = u .marks }
+      | some p ↦ record { numbers = u .said .number ∷ rest .numbers; packets = p ∷ rest .packets; cursor = rest .cursor; marks = rest .marks }
+      | none ↦ record { numbers = u .said .number ∷ []; packets = []; cursor = u .said .cursor; marks = u .marks }
     ]
 
 -- at most n steps, each given what the one before has answered and left, until one answers no packet
 unfoldable pub callSteps : ℕ → State → List ℕ → List ℕ → Cursor → Called
-callSteps zero st table marks c = record { packets = []; cursor = c; marks = marks }
+callSteps zero st table marks c = record { numbers = []; packets = []; cursor = c; marks = marks }
 callSteps (suc n) st table marks c =
     let u : Step = stepOf st table marks c in
     followed u (callSteps n st table (u .marks) (u .said .cursor))
 
--- what follows where a cursor was answered; nothing where none was
-abbrev pub opened : Option Cursor → (Cursor → Listing Position) → List ℕ → Listing Position
-opened (some c) go marks = go c
-opened none go marks = record { packets = []; marks = marks }
+-- the calls of one progression: the number of its opening, those of its steps, the packets, the cursor and the marks that they left
+pub record Turn : Type 0 where
+  pub opening : ℤ
+  pub steps : List ℤ
+  pub packets : List Position
+  pub cursor : Option Cursor
+  pub marks : List ℕ
 
--- j progressions from number k on, each opened afresh over the marks as they are, with at most n steps each
-unfoldable pub callRuns : ℕ → ℕ → State → List ℕ → List ℕ → ℕ → Listing Position
-callRuns n zero st table marks k = record { packets = []; marks = marks }
+-- steps follow where a cursor was answered; none where none was
+abbrev pub turnBy : (Cursor → Called) → List ℕ → ℤ → Option Cursor → Turn
+turnBy go marks z (some c) =
+    let r = go c in
+    record { opening = z; steps = r .numbers; packets = r .packets; cursor = some (r .cursor); marks = r .marks }
+turnBy go marks z none = record { opening = z; steps = []; packets = []; cursor = none; marks = marks }
+
+-- progression k, opened over the marks as they are, with at most n steps
+unfoldable pub callTurn : ℕ → State → List ℕ → List ℕ → ℕ → Turn
+callTurn n st table marks k = let o : OpenSaid = openOf st table marks k in turnBy (callSteps n st table marks) marks (o .number) (o .cursor)
+
+-- the calls of some progressions, and the marks that they left
+pub record Hosted : Type 0 where
+  pub turns : List Turn
+  pub marks : List ℕ
+
+-- j progressions from number k on, with at most n steps each
+unfoldable pub callRuns : ℕ → ℕ → State → List ℕ → List ℕ → ℕ → Hosted
+callRuns n zero st table marks k = record { turns = []; marks = marks }
 callRuns n (suc j) st table marks k =
-    opened (openOf st table marks k .cursor)
-    (λ c.
-    let r = callSteps n st table marks c in
-    let rest = callRuns n j st table (r .marks) (k + 1) in
-    record { packets = r .packets ++ rest .packets; marks = rest .marks })
-    marks
+    let t : Turn = callTurn n st table marks k in
+    let rest = callRuns n j st table (t .marks) (k + 1) in
+    record { turns = t ∷ rest .turns; marks = rest .marks }
+
+-- 01: at most 65,536 marks are needed, so that many packets at most are found, and one step more ends a progression
+abbrev pub mostSteps : ℕ
+mostSteps = 65537
+
+-- every progression of a state
+unfoldable pub hostCalls : State → List ℕ → List ℕ → Hosted
+hostCalls st table marks = callRuns mostSteps (st .progressions) st table marks 0
+
+-- the packets answered, in order
+abbrev pub answered : Hosted → List Position
+answered h = gather (λ t. t .packets) (h .turns)

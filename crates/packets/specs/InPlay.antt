@@ -14,14 +14,15 @@ use Rattle.laws.specs.Least.{least, least-start, least-at, least-below}
 use Rattle.laws.specs.Stride.{stride, stride-grows}
 use Rattle.laws.specs.Nest.{nest}
 use Rattle.geometry.specs.Line.{hitAt}
-use Rattle.packets.specs.State.{origin}
+use Rattle.types.specs.State.{origin}
 use Rattle.packets.specs.Tile.{Sheet, lineY, precincts}
-use Rattle.packets.specs.Orders.{Order, Range}
+use Rattle.types.specs.declared.order.Order.{Order}
+use Rattle.types.specs.declared.order.Range.{Range}
 use Rattle.packets.specs.Grid.{stepX, stepY}
 use Rattle.packets.specs.Positions.{loopsOf, hasPositions, positionsIn}
 use Rattle.packets.specs.Strided.{For, pointsFor, rangeAt, PassesNoHit, strided, strided-positions, strided-listed}
 use Rattle.packets.specs.NextHits.{met-has, has-precincts, row-by-steps, column-by-steps}
-use Rattle.packets.specs.declared.cursor.Position.{Position}
+use Rattle.types.specs.declared.cursor.Position.{Position}
 
 -- the least next multiple of the steps in play, of a range; stop if that is less or none is in play
 unfoldable pub nextInPlay : Range → (ℕ → ℕ → Bool) → (ℕ → ℕ → ℕ) → ℕ → ℕ → ℕ

@@ -10,25 +10,19 @@ use borrow.Author.Tests.{leb-true}
 use Rattle.laws.specs.Cases.{and-true, split}
 use Rattle.laws.specs.Nest.{nest, Alike, alike-nest}
 use Rattle.laws.specs.NestOnce.{Within, nest-kept, nest-within, within-nest}
-use Rattle.packets.specs.State.{origin}
+use Rattle.types.specs.State.{origin}
 use Rattle.packets.specs.Tile.{Sheet, resOf, precincts}
-use Rattle.packets.specs.Orders.{Order, lrcp, rlcp, rpcl, pcrl, cprl, other, Range, componentsGood}
+use Rattle.types.specs.Orders.{byPoints, componentsGood}
+use Rattle.types.specs.declared.order.Order.{Order}
+use Rattle.types.specs.declared.order.Order.the-variants.{Lrcp as lrcp, Rlcp as rlcp, Rpcl as rpcl, Pcrl as pcrl, Cprl as cprl, NoPositions as other}
+use Rattle.types.specs.declared.order.Range.{Range}
 use Rattle.packets.specs.Positions.{loopsOf, hasPositions, positionsIn, met, numberAt}
 use Rattle.packets.specs.Same.{samePosition, same-true}
 use Rattle.packets.specs.Sound.{isIn}
 use Rattle.packets.specs.Good.{Good}
 use Rattle.packets.specs.Met.{MetAt, precincts-in, met-small}
 use Rattle.packets.specs.Loops.{loops-apart, loops-steady, loops-plain, loops-back}
-use Rattle.packets.specs.declared.cursor.Position.{Position}
-
--- the orders that go by points of the tile: 2 to 4
-abbrev pub byPoints : Order → Bool
-byPoints lrcp = false
-byPoints rlcp = false
-byPoints rpcl = true
-byPoints pcrl = true
-byPoints cprl = true
-byPoints other = false
+use Rattle.types.specs.declared.cursor.Position.{Position}
 
 -- 01: x and y are 0 in orders 0 and 1; the other orders have loops for them
 abbrev pub atPoint : Order → Position → Type 0

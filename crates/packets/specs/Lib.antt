@@ -1,23 +1,21 @@
 -- What is right: sheets, tiles, positions, soundness and the calls, from document 01 and ITU-T T.800; then the theorems about these definitions.
 -- The order is that of reading.
-pub mod State
 pub mod Sheet
 pub mod Tile
-pub mod Orders
 pub mod Grid
 pub mod Positions
 pub mod Table
-pub mod Answers
 pub mod Apart
 pub mod Same
 pub mod Sound
 pub mod Calls
 pub mod Bounds
 pub mod Text
-pub mod Signed
 pub mod Good
 pub mod Loops
 pub mod Standard
+pub mod Wanted
+pub mod Host
 pub mod Counts
 pub mod Strided
 pub mod Skips
@@ -37,13 +35,18 @@ pub mod Alike
 pub mod SetupSound
 pub mod Meaning
 pub mod Steps
-pub mod Host
+pub mod Turns
 pub mod Run
 pub mod WholeRun
+pub mod Own
+pub mod Firsts
+pub mod OwnRun
 pub mod Accepted
 pub mod Written
 pub mod Rows
 pub mod Rebuilt
 pub mod Recovered
 pub mod Origin
+pub mod Refusals
+pub mod Demands
 pub mod Cases

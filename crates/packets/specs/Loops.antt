@@ -3,7 +3,9 @@ use mathlib.Core.Path.{refl}
 use Rattle.laws.specs.Axis.{up-grows}
 use Rattle.laws.specs.NestOnce.{Apart, Steady, Plain, Back}
 use Rattle.packets.specs.Tile.{Sheet}
-use Rattle.packets.specs.Orders.{Order, lrcp, rlcp, rpcl, pcrl, cprl, other, Range}
+use Rattle.types.specs.declared.order.Order.{Order}
+use Rattle.types.specs.declared.order.Order.the-variants.{Lrcp as lrcp, Rlcp as rlcp, Rpcl as rpcl, Pcrl as pcrl, Cprl as cprl, NoPositions as other}
+use Rattle.types.specs.declared.order.Range.{Range}
 use Rattle.packets.specs.Positions.{loopsOf, met, numberAt}
 
 module _ (s : Sheet) (g : Range) where

@@ -8,21 +8,24 @@ use lib.ListN.{length}
 use lib.Dec.{eqb}
 use lib.IntN.{ℤ, pos, negsuc}
 use Rattle.laws.specs.Means.{Means, ltb-means, leb-means, eqb-means, means-by, and-means, or-means, all-means, from-means}
-use Rattle.packets.specs.State.{noProgression}
-use Rattle.packets.specs.Sheet.{within, componentRange}
+use Rattle.types.specs.State.{noProgression}
+use Rattle.types.specs.Ranges.{within, componentRange}
 use Rattle.packets.specs.Tile.{Sheet, dxOf, dyOf, resOf, width, height, maxPrec, maxRes, dxMin, dyMin, needed, tableBytes}
-use Rattle.packets.specs.Orders.{Order, lrcp, rlcp, rpcl, pcrl, cprl, other, orderOf}
+use Rattle.types.specs.Orders.{orderOf}
+use Rattle.types.specs.declared.order.Order.{Order}
+use Rattle.types.specs.declared.order.Order.the-variants.{Lrcp as lrcp, Rlcp as rlcp, Rpcl as rpcl, Pcrl as pcrl, Cprl as cprl, NoPositions as other}
 use Rattle.packets.specs.Grid.{everywhere, stepX, stepY, smallest, stepsFit, stepsDivide, agreed, changeOf, gridAgreed}
 use Rattle.packets.specs.Table.{entryWord, sheetAt}
-use Rattle.packets.specs.Sound.{tileGood, componentsSound, isZero, noRange, progressionGood, progressionsSound, entrySound, tableSound, reportsSound, stateSound, placeSound, positionsFor, cursorSound, sound}
+use Rattle.types.specs.Signed.{isZero}
+use Rattle.packets.specs.Sound.{tileGood, componentsSound, noRange, progressionGood, progressionsSound, entrySound, tableSound, reportsSound, stateSound, placeSound, positionsFor, cursorSound, sound}
 use Rattle.packets.specs.Good.{Good}
 use Rattle.packets.specs.Inside.{is-in, in-is}
-use Rattle.packets.specs.declared.state.Progression.{Progression}
-use Rattle.packets.specs.declared.state.State.{State}
-use Rattle.packets.specs.declared.cursor.Position.{Position}
-use Rattle.packets.specs.declared.cursor.Place.{Place}
-use Rattle.packets.specs.declared.cursor.Place.the-variants.{Fresh, At, Ended}
-use Rattle.packets.specs.declared.cursor.Cursor.{Cursor}
+use Rattle.types.specs.declared.state.Progression.{Progression}
+use Rattle.types.specs.declared.state.State.{State}
+use Rattle.types.specs.declared.cursor.Position.{Position}
+use Rattle.types.specs.declared.cursor.Place.{Place}
+use Rattle.types.specs.declared.cursor.Place.the-variants.{Fresh, At, Ended}
+use Rattle.types.specs.declared.cursor.Cursor.{Cursor}
 
 -- THE FACTS. From lo to hi, both included
 abbrev pub Between : ℕ → ℕ → ℕ → Type 0
@@ -105,10 +108,10 @@ pub record Sound (st : State) (table marks : List ℕ) : Type 0 where
   pub progression-beyond : (k : ℕ) → st .progressions ≤ k → k < 32 → changeOf st k ≡ noProgression
   pub table-long : tableBytes st ≤ length table
   pub entry : Everywhere st (EntryIn st table)
-  pub most : st .«max_prec» ≡ maxPrec (sheetAt st table)
-  pub deepest : st .«max_res» ≡ maxRes st
-  pub least-x : st .«dx_min» ≡ dxMin (sheetAt st table)
-  pub least-y : st .«dy_min» ≡ dyMin (sheetAt st table)
+  pub most : st .reports .«max_prec» ≡ maxPrec (sheetAt st table)
+  pub deepest : st .reports .«max_res» ≡ maxRes st
+  pub least-x : st .reports .«dx_min» ≡ dxMin (sheetAt st table)
+  pub least-y : st .reports .«dy_min» ≡ dyMin (sheetAt st table)
   pub grid : (k : ℕ) → k < st .progressions → AgreedFor (sheetAt st table) (orderOf (changeOf st k .prg))
   pub few : needed st ≤ 65536
   pub marks-long : needed st ≤ length marks
@@ -210,7 +213,7 @@ unfolding gridAgreed
 grid-means s = all-means _ (s .st .progressions) (λ k. agreed-means s (orderOf (changeOf (s .st) k .prg)))
 
 reports-means : (s : Sheet)
-    → Means (reportsSound s) ((s .st .«max_prec» ≡ maxPrec s) × ((s .st .«max_res» ≡ maxRes (s .st)) × ((s .st .«dx_min» ≡ dxMin s) × (s .st .«dy_min» ≡ dyMin s))))
+    → Means (reportsSound s) ((s .st .reports .«max_prec» ≡ maxPrec s) × ((s .st .reports .«max_res» ≡ maxRes (s .st)) × ((s .st .reports .«dx_min» ≡ dxMin s) × (s .st .reports .«dy_min» ≡ dyMin s))))
 unfolding reportsSound
 reports-means s = and-means (eqb-means _ (maxPrec s)) (and-means (eqb-means _ (maxRes (s .st))) (and-means (eqb-means _ (dxMin s)) (eqb-means _ (dyMin s))))
 

@@ -19,7 +19,7 @@ use Rattle.geometry.specs.Hits.{Proper, Ordered, proper, factors, col-below, hi
 use Rattle.packets.specs.Tile.{Sheet, lineX, lineY, resOf, width, height, precincts}
 use Rattle.packets.specs.Positions.{met, numberAt}
 use Rattle.packets.specs.Good.{Good}
-use Rattle.packets.specs.declared.cursor.Position.{Position}
+use Rattle.types.specs.declared.cursor.Position.{Position}
 
 module _ (s : Sheet) (c r : ℕ) where
   -- a resolution that the component has

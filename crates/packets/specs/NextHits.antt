@@ -14,11 +14,11 @@ use Rattle.laws.specs.NestOnce.{Within}
 use Rattle.geometry.specs.Line.{Line, boundOf, low, high, count, hitAt}
 use Rattle.geometry.specs.Hits.{count-none, factors, no-hit-between}
 use Rattle.packets.specs.Tile.{Sheet, lineX, lineY, resOf, width, height, precincts}
-use Rattle.packets.specs.Orders.{Range}
+use Rattle.types.specs.declared.order.Range.{Range}
 use Rattle.packets.specs.Grid.{stepX, stepY}
 use Rattle.packets.specs.Positions.{met}
 use Rattle.packets.specs.Strided.{For, outerLoops, Hit, NextRow, NextColumn, PassesNoHit}
-use Rattle.packets.specs.declared.cursor.Position.{Position}
+use Rattle.types.specs.declared.cursor.Position.{Position}
 
 -- WHAT IS MET. An axis with precincts has a step
 some-step : (l : Line) → 0 < count l → 1 ≤ l .d

@@ -9,16 +9,18 @@ use Rattle.laws.specs.Lists.{NoRepeats, none}
 use Rattle.laws.specs.Digits.{same-high, same-low}
 use Rattle.laws.specs.Below.{maxBelow, max-at}
 use Rattle.laws.specs.NestOnce.{nest-once}
-use Rattle.packets.specs.State.{origin}
+use Rattle.types.specs.State.{origin}
 use Rattle.packets.specs.Tile.{Sheet, resOf, precincts, maxPrec, maxRes, strideC, strideR, strideL, needed, indexOf}
-use Rattle.packets.specs.Orders.{Order, Range}
+use Rattle.types.specs.Orders.{byPoints}
+use Rattle.types.specs.declared.order.Order.{Order}
+use Rattle.types.specs.declared.order.Range.{Range}
 use Rattle.packets.specs.Positions.{loopsOf, hasPositions, positionsIn}
 use Rattle.packets.specs.Good.{Good}
 use Rattle.packets.specs.Loops.{loops-apart}
 use Rattle.packets.specs.Met.{met-once}
 use Rattle.packets.specs.Same.{same-numbers}
-use Rattle.packets.specs.Inside.{Inside, byPoints, positions-nest, positions-none, in-range, in-met, in-still, inside}
-use Rattle.packets.specs.declared.cursor.Position.{Position}
+use Rattle.packets.specs.Inside.{Inside, positions-nest, positions-none, in-range, in-met, in-still, inside}
+use Rattle.types.specs.declared.cursor.Position.{Position}
 
 module _ (s : Sheet) (g : Range) where
   -- no position is listed twice
@@ -41,7 +43,7 @@ module _ (s : Sheet) (g : Range) where
 
 module _ (s : Sheet) (good : Good s) where
   -- the precinct is below the largest count
-  pub below-most : (p : Position) → Inside s p → p .precno < s .st .«max_prec»
+  pub below-most : (p : Position) → Inside s p → p .precno < s .st .reports .«max_prec»
   unfolding maxPrec
   below-most p i =
       let a = max-at (precincts s (p .compno)) (resOf (s .st) (p .compno)) (p .resno) (i .resolution) in
@@ -49,7 +51,7 @@ module _ (s : Sheet) (good : Good s) where
       omega (arith, good .most, i .precinct)
 
   -- and the resolution below the largest number of resolutions
-  pub below-deepest : (p : Position) → Inside s p → p .resno < s .st .«max_res»
+  pub below-deepest : (p : Position) → Inside s p → p .resno < s .st .reports .«max_res»
   unfolding maxRes
   below-deepest p i = omega (arith, good .deepest, i .resolution, max-at (resOf (s .st)) (s .st .components) (p .compno) (i .component))
 

@@ -3,13 +3,10 @@ use mathlib.Core.Path.{_≡_, refl, sym, ap, _∙_}
 use mathlib.Core.Bool.{true}
 use mathlib.Core.List.{List, _++_}
 use mathlib.Core.Logic.{_↔_}
-use Prim.Native.Nat.{ℕ, _-_, _≤_}
+use Prim.Native.Nat.{ℕ, _≤_}
 use lib.ListN.{length, take, drop, take-append-drop}
 use lib.Seq.{take-at}
-use lib.Dec.{eqb}
-use lib.IntN.{pos, negsuc}
-use borrow.Author.Tests.{le-leb, eqb-true}
-use Rattle.laws.specs.Cases.{split}
+use lib.IntN.{pos}
 use Rattle.words.specs.Words.{over}
 use Rattle.words.specs.Laws.{Bytes}
 use Rattle.packets.specs.Sheet.{readVerdict, fieldsOf}
@@ -20,13 +17,13 @@ use Rattle.packets.specs.Sound.{stateSound}
 use Rattle.packets.specs.Calls.{Setup, setupVerdict, accepted, setupOf}
 use Rattle.packets.specs.Accepted.{read-means}
 use Rattle.packets.specs.SetupSound.{setup-sound}
-use Rattle.packets.specs.WholeRun.{setup-passed, setup-accepts}
+use Rattle.packets.specs.WholeRun.{setup-passed, passed-setup, setup-verdict, setup-accepts}
 use Rattle.packets.specs.Readback.{table-length}
 use Rattle.packets.specs.Meaning.{sound-means}
 use Rattle.packets.specs.Written.{written}
 use Rattle.packets.specs.Rebuilt.{Formed, reads, bytes-fit}
 use Rattle.packets.specs.Recovered.{answers, agrees, table-back}
-use Rattle.packets.specs.declared.state.State.{State}
+use Rattle.types.specs.declared.state.State.{State}
 
 -- a state and a table are what setup answers and writes for the sheet b, which it accepts for marks of this length
 pub record SetUpFrom (st : State) (table marks b : List ℕ) : Type 0 where
@@ -96,22 +93,16 @@ module _ (st : State) (table marks b : List ℕ) where
   abbrev v : ℕ
   v = setupVerdict b table marks
 
-  none-refused : setupOf b table marks .said .number ≡ pos 0 → v ≡ 0
-  unfolding setupOf
-  none-refused e = split (eqb v 0) (λ t. eqb-true v 0 t) (λ t. let z : negsuc (v - 1) ≡ pos 0 = rw t at e in cc)
-
   passed : SetUpFrom st table marks b → v ≡ 0
-  unfolding setupVerdict
   passed f =
-      let few = rw (f .answered) at (f .few) in
-      let marks-long = rw (f .answered) at (f .marks-long) in
-      let table-long = rw (f .answered) at (f .table-long) in
-      rw (f .accepted, f .agreed, le-leb _ _ few, le-leb _ _ marks-long, le-leb _ _ table-long)
+      let same = f .answered in
+      passed-setup b table marks
+      (record { read = f .accepted; grid = f .agreed; few = rw same at (f .few); enough = rw same at (f .marks-long); room = rw same at (f .table-long) })
 
   -- what the call says, and what is tested: each from the other
   pub from-call : SetUpBy st table marks b → SetUpFrom st table marks b
   from-call f =
-      let z : v ≡ 0 = none-refused (f .accepts) in
+      let z : v ≡ 0 = setup-verdict b table marks (f .accepts) in
       let p = setup-passed b table marks z in
       let e : accepted b table marks ≡ setupOf b table marks = sym (setup-accepts b table marks z) in
       let there : reported (sheetIn b) ≡ st = ap (λ (r : Setup). r .said .state) e ∙ f .answers in

@@ -6,11 +6,14 @@ use lib.Dec.{ltb}
 use Rattle.laws.specs.Axis.{up}
 use Rattle.laws.specs.Nest.{Loop, nest}
 use Rattle.geometry.specs.Line.{hitAt, columnOf}
-use Rattle.packets.specs.State.{origin}
+use Rattle.types.specs.State.{origin}
 use Rattle.packets.specs.Tile.{Sheet, lineX, lineY, width, precincts}
-use Rattle.packets.specs.Orders.{Order, lrcp, rlcp, rpcl, pcrl, cprl, other, orderOf, Range, rangeOf, componentsGood}
-use Rattle.packets.specs.declared.state.Progression.{Progression}
-use Rattle.packets.specs.declared.cursor.Position.{Position}
+use Rattle.types.specs.Orders.{orderOf, rangeOf, componentsGood}
+use Rattle.types.specs.declared.order.Order.{Order}
+use Rattle.types.specs.declared.order.Order.the-variants.{Lrcp as lrcp, Rlcp as rlcp, Rpcl as rpcl, Pcrl as pcrl, Cprl as cprl, NoPositions as other}
+use Rattle.types.specs.declared.order.Range.{Range}
+use Rattle.types.specs.declared.state.Progression.{Progression}
+use Rattle.types.specs.declared.cursor.Position.{Position}
 
 -- 01: a precinct is met at a point that passes the test on each axis, of a resolution that the component has and that has precincts
 unfoldable pub met : Sheet → Position → Bool

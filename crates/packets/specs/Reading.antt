@@ -9,13 +9,13 @@ use lib.ListN.{length}
 use lib.Dec.{ltb, eqb}
 use borrow.Author.Tests.{lt-ltb, ltb-true, leb-true, eqb-true, eqb-false}
 use Rattle.laws.specs.Cases.{le-or-lt, and-true, split, cond-zero}
-use Rattle.packets.specs.Sheet.{wd, Due, due, recordVerdict, dueBehind, complete, readFrom, readVerdict, lengthGood, tileVerdict, componentVerdict, resolutionVerdict, progressionVerdict, componentRecord, resolutionRecord, progressionRecord}
+use Rattle.packets.specs.Sheet.{wd, Due, due, recordVerdict, dueAfter, complete, readFrom, readVerdict, lengthGood, tileVerdict, componentVerdict, resolutionVerdict, progressionVerdict, componentRecord, resolutionRecord, progressionRecord}
 
 -- a verdict that is 0 lets the reading go on
 goes-on : (v rest : ℕ) → cond (eqb v 0) rest v ≡ 0 → (v ≡ 0) × (rest ≡ 0)
 goes-on v rest e = let z = cond-zero (eqb v 0) rest v (eqb-false v 0) e in (eqb-true v 0 (z .0), z .1)
 
--- one record was read: n records were left, the first had the verdict v, and `rest` is the reading of those behind it
+-- one record was read: n records were left, the first had the verdict v, and `rest` is the reading of those after it
 record Next (n v : ℕ) (rest : ℕ → ℕ) : Type 0 where
   left : ℕ
   more : n ≡ left + 1
@@ -25,11 +25,11 @@ record Next (n v : ℕ) (rest : ℕ → ℕ) : Type 0 where
 module _ (s : List ℕ) (count : ℕ) where
   -- a record that is due is there
   due-there : (n i : ℕ) (d : Due) → complete d ≡ false → readFrom s count n i d ≡ 0
-      → Next n (recordVerdict s count i d) (λ m. readFrom s count m (i + 1) (dueBehind s i d))
+      → Next n (recordVerdict s count i d) (λ m. readFrom s count m (i + 1) (dueAfter s i d))
   unfolding readFrom
   due-there zero i d c e = absurd (let z : _≡_ {A = ℕ} 2 0 = rw c at e in let n : ⊥ = omega arith in n)
   due-there (suc n) i d c e =
-      let w = goes-on (recordVerdict s count i d) (readFrom s count n (i + 1) (dueBehind s i d)) e in
+      let w = goes-on (recordVerdict s count i d) (readFrom s count n (i + 1) (dueAfter s i d)) e in
       record { left = n; more = omega arith; fine = w .0; on = w .1 }
 
   not-complete : (r c p : ℕ) → 0 < r + c + p → complete (due r c p) ≡ false
@@ -42,15 +42,15 @@ module _ (s : List ℕ) (count : ℕ) where
       (λ t. t)
 
   step-r : (n i r c p : ℕ) → 0 < r → readFrom s count n i (due r c p) ≡ 0 → Next n (resolutionVerdict s i) (λ m. readFrom s count m (i + 1) (due (r - 1) c p))
-  unfolding recordVerdict dueBehind
+  unfolding recordVerdict dueAfter
   step-r n i r c p h e = rw (lt-ltb 0 r h) at (due-there n i (due r c p) (not-complete r c p (omega arith)) e)
 
   step-c : (n i c p : ℕ) → 0 < c → readFrom s count n i (due 0 c p) ≡ 0 → Next n (componentVerdict s i) (λ m. readFrom s count m (i + 1) (due (wd s i 3) (c - 1) p))
-  unfolding recordVerdict dueBehind
+  unfolding recordVerdict dueAfter
   step-c n i c p h e = rw (lt-ltb 0 c h) at (due-there n i (due 0 c p) (not-complete 0 c p (omega arith)) e)
 
   step-p : (n i p : ℕ) → 0 < p → readFrom s count n i (due 0 0 p) ≡ 0 → Next n (progressionVerdict s count i) (λ m. readFrom s count m (i + 1) (due 0 0 (p - 1)))
-  unfolding recordVerdict dueBehind
+  unfolding recordVerdict dueAfter
   step-p n i p h e = rw (lt-ltb 0 p h) at (due-there n i (due 0 0 p) (not-complete 0 0 p (omega arith)) e)
 
   -- nothing is due: nothing is left over

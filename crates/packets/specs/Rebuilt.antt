@@ -16,8 +16,8 @@ use Rattle.packets.specs.Reading.{Read}
 use Rattle.packets.specs.Meaning.{Sound}
 use Rattle.packets.specs.Written.{tileRow, componentRow, resolutionRow, progressionRow, resolutionRows, componentRows, parts, lasts, sheetWords, written, recordsBefore, Row, written-length, tile-row, component-row, resolution-row, progression-row, record-at}
 use Rattle.packets.specs.Rows.{Signed, unsigned-small, tile-fine, component-fine, resolution-fine, progression-fine}
-use Rattle.packets.specs.declared.state.Progression.{Progression}
-use Rattle.packets.specs.declared.state.State.{State}
+use Rattle.types.specs.declared.state.Progression.{Progression}
+use Rattle.types.specs.declared.state.State.{State}
 
 -- a progression and a state as the code holds them: every number fits its word, every array has its length
 pub record FormedProgression (q : Progression) : Type 0 where

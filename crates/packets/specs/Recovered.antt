@@ -14,7 +14,7 @@ use Rattle.words.specs.Words.{wordAt, wordsBytes}
 use Rattle.words.specs.Laws.{Bytes}
 use Rattle.words.specs.Exact.{words-from}
 use Rattle.geometry.specs.Line.{count}
-use Rattle.packets.specs.State.{noProgression}
+use Rattle.types.specs.State.{noProgression}
 use Rattle.packets.specs.Sheet.{wd, componentRecord, progressionRecord, fieldsOf, arrayOf}
 use Rattle.packets.specs.Tile.{resOf, reported, entriesBefore, tableBytes}
 use Rattle.packets.specs.Grid.{changeOf, gridAgreed}
@@ -24,7 +24,7 @@ use Rattle.packets.specs.Meaning.{Sound, grid-means}
 use Rattle.packets.specs.Written.{tileRow, componentRow, written, Row}
 use Rattle.packets.specs.Rebuilt.{Formed, tile-says, component-says, resolution-says, progression-says}
 use Rattle.packets.specs.Rows.{progression-back}
-use Rattle.packets.specs.declared.state.State.{State}
+use Rattle.types.specs.declared.state.State.{State}
 
 module _ (st : State) (table marks : List ℕ) (formed : Formed st) (sound : Sound st table marks) where
   abbrev pub b : List ℕ
@@ -110,10 +110,7 @@ module _ (st : State) (table marks : List ℕ) (formed : Formed st) (sound : Sou
         dy = dy-same i;
         resolutions = resolutions-same i;
         changes = changes-same i;
-        «max_prec» = most i;
-        «max_res» = deepest i;
-        «dx_min» = least-x i;
-        «dy_min» = least-y i;
+        reports = record { «max_prec» = most i; «max_res» = deepest i; «dx_min» = least-x i; «dy_min» = least-y i };
       }
 
   -- its grid is agreed

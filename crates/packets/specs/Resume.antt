@@ -1,4 +1,4 @@
--- Resuming: what is behind a position of a progression is what its loops have left when they start from that position's numbers, the innermost from the next.
+-- Resuming: what is after a position of a progression is what its loops have left when they start from that position's numbers, the innermost from the next.
 -- Assumes nothing.
 use mathlib.Core.Path.{_≡_, refl, sym, ap, _∙_}
 use mathlib.Core.Bool.{true, false, true≢false}
@@ -7,14 +7,16 @@ use Prim.Native.Nat.{ℕ, _+_}
 use Rattle.laws.specs.Lists.{behind}
 use Rattle.laws.specs.Nest.{nest, resumed, Fresh, resumed-fresh}
 use Rattle.laws.specs.NestResume.{Resumes, behind-nest}
-use Rattle.packets.specs.State.{origin}
+use Rattle.types.specs.State.{origin}
 use Rattle.packets.specs.Tile.{Sheet}
-use Rattle.packets.specs.Orders.{Order, lrcp, rlcp, rpcl, pcrl, cprl, other, Range}
+use Rattle.types.specs.declared.order.Order.{Order}
+use Rattle.types.specs.declared.order.Order.the-variants.{Lrcp as lrcp, Rlcp as rlcp, Rpcl as rpcl, Pcrl as pcrl, Cprl as cprl, NoPositions as other}
+use Rattle.types.specs.declared.order.Range.{Range}
 use Rattle.packets.specs.Positions.{loopsOf, hasPositions, positionsIn, numberAt}
 use Rattle.packets.specs.Same.{same}
 use Rattle.packets.specs.Loops.{loops-apart}
 use Rattle.packets.specs.Inside.{positions-nest, in-positions, in-met}
-use Rattle.packets.specs.declared.cursor.Position.{Position}
+use Rattle.types.specs.declared.cursor.Position.{Position}
 
 -- where the loops of an order start for a fresh cursor
 abbrev pub freshStarts : Sheet → Range → Order → List (Position → ℕ)
@@ -56,7 +58,7 @@ module _ (s : Sheet) (g : Range) where
   resumes cprl q i = let e = sym (in-met s g cprl refl q i .number) in (refl, (refl, (refl, (refl, (e, refl)))))
   resumes other q i = absurd (true≢false (sym (in-positions s g other q .0 i .0)))
 
-  -- a cursor at q leaves what is behind q
+  -- a cursor at q leaves what is after q
   pub resume-behind : (o : Order) (q : Position) → In q (positionsIn s g o) → behind same q (positionsIn s g o) ≡ resumed (loopsOf s g o) (startsAt s o q) origin
   resume-behind o q i =
       let n : positionsIn s g o ≡ nest (loopsOf s g o) origin = positions-nest s g o (in-positions s g o q .0 i .0) in

@@ -15,8 +15,8 @@ use Rattle.packets.specs.Sheet.{wd, unnamed, tileVerdict, componentVerdi
 use Rattle.packets.specs.Tile.{Sheet}
 use Rattle.packets.specs.Meaning.{TileIn, ComponentIn, Volume, WholeTile, tile-means, component-means}
 use Rattle.packets.specs.Written.{unsigned, tileRow, componentRow, resolutionRow, progressionRow, Row}
-use Rattle.packets.specs.declared.state.Progression.{Progression}
-use Rattle.packets.specs.declared.state.State.{State}
+use Rattle.types.specs.declared.state.Progression.{Progression}
+use Rattle.types.specs.declared.state.State.{State}
 
 -- a signed number of 32 bits
 abbrev pub Signed : ℤ → Type 0

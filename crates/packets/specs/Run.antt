@@ -1,184 +1,162 @@
--- THE RUN (demand 3): from marks that are 0 where they are needed, the steps of all progressions in turn list the plain loops' packets in order, one already
--- listed left out, each exactly once; of the marks needed those alone are set; and the whole run is that same run. Assumes nothing.
+-- THE RUN: the calls of all progressions in turn, from marks that are 0 where they are needed, list the plain loops' packets in order, one already listed left
+-- out, each exactly once; of the marks needed those alone are set; and then no step finds anything more. Assumes nothing.
 use mathlib.Core.Path.{_≡_, refl, sym, ap, _∙_, subst}
-use mathlib.Core.Bool.{Bool, true, false, cond}
-use mathlib.Core.List.{List, [], _∷_, _++_, map, List·Memᴰ as In, Memᴰ·of-map as in-of-map}
-use Prim.Native.Nat.{ℕ, zero, suc, _+_, _≤_, _<_}
+use mathlib.Core.Bool.{true, true≢false}
+use mathlib.Core.List.{List, [], _∷_, _++_, map, List·Memᴰ as In, List·Memᴰ·not-nil as not-in-nil, List·Memᴰ·cases-cons as in-cons, Memᴰ·map as in-map, Memᴰ·of-map as in-of-map}
+use mathlib.Core.Logic.{⊎-elim}
+use mathlib.Core.Option.{Option, some, none}
+use Prim.Native.Nat.{ℕ, zero, suc, _+_, _-_, _≤_, _<_, zero-le}
 use native.Mathlib.Omega.{arith}
 use lib.ListN.{length, getD}
-use lib.Dec.{leb, eqb}
-use borrow.Author.Tests.{leb-true}
-use Rattle.laws.specs.Cases.{and-true}
-use Rattle.laws.specs.Axis.{span}
+use lib.IntN.{pos}
+use Rattle.laws.specs.Axis.{span, up, up-grows}
+use Rattle.laws.specs.Axes.{axis-bounds}
 use Rattle.laws.specs.Spans.{span-head, span-end}
+use Rattle.laws.specs.Gather.{gather, gather-map}
+use Rattle.laws.specs.Marks.{zero-free, one-taken}
+use Rattle.laws.specs.Gathered.{gathered, gathered-from}
+use Rattle.laws.specs.Members.{in-span}
 use Rattle.laws.specs.Lists.{NoRepeats}
-use Rattle.laws.specs.Runs.{Answer, Packet, Ended, Cursor, fresh, at, ended, Ran, run, stepBy, stepOf, onward, seek, mark, after as behindCursor, run-lists, unlisted, marked}
-use Rattle.laws.specs.Listing.{length-marked}
-use Rattle.laws.specs.AllRuns.{Listing, listing, runAll, run-all, NoneRepeats, Below, Complete, run-all-complete}
-use Rattle.packets.specs.State.{freshCursor}
+use Rattle.laws.specs.Runs.{Answer, Packet, Ended, Ran, seek, seek-is-free, found-in, run-lists, unlisted, marked}
+use Rattle.laws.specs.Listing.{indexes, length-marked, listed-of, unlisted-within}
+use Rattle.laws.specs.AllRuns.{Listing, joined, listing, runAll, run-all, NoneRepeats, Below, Complete, run-all-complete}
+use Rattle.types.specs.State.{endedCursor}
 use Rattle.packets.specs.Tile.{needed, indexOf}
-use Rattle.packets.specs.Table.{sheetAt}
-use Rattle.packets.specs.Orders.{orderOf, rangeOf, wholeTile, volume}
-use Rattle.packets.specs.Grid.{changeOf, gridAgreed}
-use Rattle.packets.specs.Sound.{tileGood, componentsSound, progressionsSound, tableSound, reportsSound, stateSound, positionsFor, sound}
-use Rattle.packets.specs.Good.{Good}
-use Rattle.packets.specs.Once.{positions-once, index-small}
+use Rattle.packets.specs.Sound.{stateSound, positionsFor, sound}
+use Rattle.packets.specs.Meaning.{sound-means, all-sound-means}
 use Rattle.packets.specs.Same.{same}
-use Rattle.packets.specs.Answers.{OpenSaid}
 use Rattle.packets.specs.Calls
-use Rattle.packets.specs.Host.{Called, followed, opened, callSteps, callRuns}
-use Rattle.packets.specs.Steps.{asCursor, after-as, step-searches, step-sound, sound-length, fresh-sound, open-good}
-use Rattle.packets.specs.declared.state.Progression.{Progression}
-use Rattle.packets.specs.declared.state.State.{State}
-use Rattle.packets.specs.declared.cursor.Position.{Position}
-use Rattle.packets.specs.declared.cursor.Place.{Place}
-use Rattle.packets.specs.declared.cursor.Place.the-variants as place
-use Rattle.packets.specs.declared.cursor.Cursor as cursor
+use Rattle.packets.specs.Host.{Turn, Hosted, callRuns, answered}
+use Rattle.packets.specs.Steps.{asCursor, after-as, step-searches, sound-length}
+use Rattle.types.specs.declared.state.State.{State}
+use Rattle.types.specs.declared.cursor.Position.{Position}
+use Rattle.types.specs.declared.cursor.Cursor as cursor
+use Rattle.packets.specs.Turns.{onesThenZero, once, mark-needed, turnFor, turn-lists}
 
--- a cursor of the laws of runs, as a place
-abbrev placeOf : Cursor Position → Place
-placeOf fresh = place.Fresh
-placeOf (at p) = place.At p
-placeOf ended = place.Ended
+-- a turn whose opening answered 0, whose steps answered 1 for each packet, and whose last step answered 0
+pub record Answered (t : Turn) : Type 0 where
+  pub opening : t .opening ≡ pos 0
+  pub steps : t .steps ≡ onesThenZero (t .packets)
 
-place-back : (p : Place) → placeOf (asCursor p) ≡ p
-place-back place.Fresh = refl
-place-back (place.At p) = refl
-place-back place.Ended = refl
-
-module _ (st : State) (table : List ℕ) (k : ℕ) where
-  abbrev ps : List Position
-  ps = positionsFor st table k
-
-  abbrev calledBy : Ran Position → Called
-  calledBy r = record { packets = r .packets; cursor = record { progression = k; place = placeOf (r .cursor) }; marks = r .marks }
-
-  abbrev at-place : Place → cursor.Cursor
-  at-place p = record { progression = k; place = p }
-
-  -- one step more, by what it finds
-  one-more : (n : ℕ) (marks : List ℕ) (p : Place) → sound st table marks (at-place p) ≡ true
-      → ((m : List ℕ) (q : Place) → sound st table m (at-place q) ≡ true → callSteps n st table m (at-place q) ≡ calledBy (run same (indexOf st) n ps m (asCursor q)))
-      → (a : Answer Position) → seek (indexOf st) marks (Calls.after p ps) ≡ a
-      → callSteps (suc n) st table marks (at-place p) ≡ calledBy (onward (stepBy (indexOf st) marks a) (run same (indexOf st) n ps))
-  unfolding callSteps
-  one-more n marks p h go (Packet q) e =
-      let step : Calls.stepOf st table marks (at-place p) ≡ Calls.stepBy st marks k (Packet q)
-      = step-searches st table marks (at-place p) h ∙ ap (Calls.stepBy st marks k) e in
-      let on : sound st table (mark (indexOf st) marks q) (at-place (place.At q)) ≡ true
-      = subst (λ (u : Calls.Step). sound st table (u .marks) (u .said .cursor) ≡ true) step (step-sound st table marks (at-place p) h) in
-      ap (λ (u : Calls.Step). followed u (callSteps n st table (u .marks) (u .said .cursor))) step
-      ∙ ap (λ (r : Called). record { packets = q ∷ r .packets; cursor = r .cursor; marks = r .marks }) (go (mark (indexOf st) marks q) (place.At q) on)
-  one-more n marks p h go Ended e =
-      ap (λ (u : Calls.Step). followed u (callSteps n st table (u .marks) (u .said .cursor))) (step-searches st table marks (at-place p) h ∙ ap (Calls.stepBy st marks k) e)
-
-  -- a run of calls from a sound cursor is a run of the laws
-  steps-run : (n : ℕ) (marks : List ℕ) (p : Place) → sound st table marks (at-place p) ≡ true
-      → callSteps n st table marks (at-place p) ≡ calledBy (run same (indexOf st) n ps marks (asCursor p))
-  unfolding callSteps run stepOf
-  steps-run zero marks p h = ap (λ (q : Place). record { packets = []; cursor = at-place q; marks = marks }) (sym (place-back p))
-  steps-run (suc n) marks p h =
-      one-more n marks p h (steps-run n) (seek (indexOf st) marks (behindCursor same (asCursor p) ps)) (ap (seek (indexOf st) marks) (after-as p ps))
-
-  -- enough steps from a fresh cursor list what has no mark, mark it, and end
-  pub steps-list : NoRepeats ps → (n : ℕ) → length ps < n → (marks : List ℕ) → stateSound st table marks ≡ true → k < st .progressions
-      → callSteps n st table marks (freshCursor k) ≡ record { packets = unlisted (indexOf st) marks ps; cursor = at-place place.Ended; marks = marked (indexOf st) marks (unlisted (indexOf st) marks ps) }
-  steps-list once n enough marks h l =
-      steps-run n marks place.Fresh (fresh-sound st table marks k h l) ∙ ap calledBy (run-lists same (indexOf st) ps once n marks enough)
-
--- what one progression's calls listed, and then what the rest do over the marks that it left
-abbrev joinedTo : Called → (List ℕ → Listing Position) → Listing Position
-joinedTo r go = let rest = go (r .marks) in record { packets = r .packets ++ rest .packets; marks = rest .marks }
+-- what some calls list and leave
+abbrev pub listingOf : Hosted → Listing Position
+listingOf h = record { packets = answered h; marks = h .marks }
 
 module _ (st : State) (table : List ℕ) where
   -- the progressions' lists, from number k on
-  abbrev pub lists : ℕ → ℕ → List (List Position)
+  abbrev lists : ℕ → ℕ → List (List Position)
   lists k j = map (positionsFor st table) (span k (k + j))
 
-  -- the calls of all progressions in turn are the runs of the laws
-  runs-run : ((k : ℕ) → NoRepeats (positionsFor st table k)) → (n : ℕ) → ((k : ℕ) → k < st .progressions → length (positionsFor st table k) < n)
-      → (j k : ℕ) (marks : List ℕ) → k + j ≤ st .progressions → stateSound st table marks ≡ true
-      → callRuns n j st table marks k ≡ runAll same (indexOf st) (lists k j) marks
-  unfolding callRuns runAll
-  runs-run once n enough zero k marks l h = rw (span-end k (k + 0) (omega arith))
-  runs-run once n enough (suc j) k marks l h =
+  -- what is right of the calls of j progressions from number k on
+  pub record Went (marks : List ℕ) (k j : ℕ) (r : Hosted) : Type 0 where
+    pub lists-all : listingOf r ≡ runAll same (indexOf st) (lists k j) marks
+    pub answers : (t : Turn) → In t (r .turns) → Answered t
+    pub cursors : map (λ (t : Turn). t .cursor) (r .turns) ≡ map (λ i. some (endedCursor i)) (span k (k + j))
+
+  -- one progression, and then the others
+  went-on : (marks : List ℕ) (k j : ℕ) (r : Hosted) → (let l : List Position = unlisted (indexOf st) marks (positionsFor st table k) in
+      Went (marked (indexOf st) marks l) (k + 1) j r → Went marks k (suc j) (record { turns = turnFor st table k marks l ∷ r .turns; marks = r .marks }))
+  unfolding runAll gather
+  went-on marks k j r w =
       let ps : List Position = positionsFor st table k in
-      let listed : List Position = unlisted (indexOf st) marks ps in
-      let left : List ℕ = marked (indexOf st) marks listed in
-      let first : callSteps n st table marks (freshCursor k) ≡ record { packets = listed; cursor = record { progression = k; place = place.Ended }; marks = left }
-      = steps-list st table k (once k) n (enough k (omega arith)) marks h (omega arith) in
-      let on : stateSound st table left ≡ true = sound-length st table left marks (length-marked (indexOf st) marks listed) ∙ h in
-      let rest : callRuns n j st table left (k + 1) ≡ runAll same (indexOf st) (lists (k + 1) j) left = runs-run once n enough j (k + 1) left (omega arith) on in
+      let l : List Position = unlisted (indexOf st) marks ps in
       let next : k + suc j ≡ k + 1 + j = omega arith in
-      let head : lists k (suc j) ≡ ps ∷ lists (k + 1) j = rw (next, span-head k (k + 1 + j) (omega arith)) in
-      ap (λ (o : OpenSaid). opened (o .cursor) (λ c. joinedTo (callSteps n st table marks c) (λ m. callRuns n j st table m (k + 1))) marks) (open-good st table marks k h (omega arith))
-      ∙ ap (λ (r : Called). joinedTo r (λ m. callRuns n j st table m (k + 1))) first
-      ∙ ap (λ (r : Listing Position). record { packets = listed ++ r .packets; marks = r .marks }) rest
-      ∙ sym
-      (ap (λ pss. runAll same (indexOf st) pss marks) head
-      ∙ ap (λ (r : Ran Position). let s = runAll same (indexOf st) (lists (k + 1) j) (r .marks) in record { packets = r .packets ++ s .packets; marks = s .marks })
-      (run-lists same (indexOf st) ps (once k) (length ps + 1) marks (omega arith)))
+      let head : span k (k + suc j) ≡ k ∷ span (k + 1) (k + 1 + j) = rw (next, span-head k (k + 1 + j) (omega arith)) in
+      record {
+        lists-all =
+            ap (λ (s : Listing Position). record { packets = l ++ s .packets; marks = s .marks }) (w .lists-all)
+            ∙ sym
+            (ap (λ is. runAll same (indexOf st) (map (positionsFor st table) is) marks) head
+            ∙ ap (λ (r : Ran Position). let s = runAll same (indexOf st) (lists (k + 1) j) (r .marks) in record { packets = r .packets ++ s .packets; marks = s .marks })
+            (run-lists same (indexOf st) ps (once st table k) (length ps + 1) marks (omega arith)));
+        answers = λ t i. ⊎-elim (λ e. rw e (record { opening = refl; steps = refl })) (w .answers t) (in-cons i);
+        cursors = ap (λ (cs : List (Option cursor.Cursor)). some (endedCursor k) ∷ cs) (w .cursors) ∙ sym (ap (map (λ i. some (endedCursor i))) head);
+      }
 
--- layers of a range are layers of the tile
-pub layers-within : (st : State) (q : Progression) → rangeOf st q .layno1 ≤ st .layers
-unfolding rangeOf
-layers-within st q = by (eqb (q .kind) 5)
-  where
-    by : (t : Bool) → cond t (wholeTile st) (volume st q) .layno1 ≤ st .layers
-    by true = omega arith
-    by false = omega arith
+  -- the calls of all progressions in turn
+  runs-went : (n : ℕ) → needed st < n → (j k : ℕ) (marks : List ℕ) → k + j ≤ st .progressions → stateSound st table marks ≡ true → Went marks k j (callRuns n j st table marks k)
+  unfolding callRuns runAll gather
+  runs-went n enough zero k marks l h =
+      let none : span k (k + 0) ≡ [] = span-end k (k + 0) (omega arith) in
+      record { lists-all = rw none; answers = λ t i. absurd (not-in-nil i); cursors = rw none }
+  runs-went n enough (suc j) k marks l h =
+      let listed : List Position = unlisted (indexOf st) marks (positionsFor st table k) in
+      let left : List ℕ = marked (indexOf st) marks listed in
+      let on : stateSound st table left ≡ true = sound-length st table left marks (length-marked (indexOf st) marks listed) ∙ h in
+      subst (λ (t : Turn). let r = callRuns n j st table (t .marks) (k + 1) in Went marks k (suc j) (record { turns = t ∷ r .turns; marks = r .marks }))
+      (sym (turn-lists st table k n enough marks h (omega arith)))
+      (went-on marks k j (callRuns n j st table left (k + 1)) (runs-went n enough j (k + 1) left (omega arith) on))
 
--- marks that are sound suffice
-marks-suffice : (st : State) (table marks : List ℕ) → stateSound st table marks ≡ true → needed st ≤ length marks
-unfolding stateSound
-marks-suffice st table marks h =
-    let a = and-true (tileGood st) _ h .1 in
-    let b = and-true (componentsSound st) _ a .1 in
-    let c = and-true (progressionsSound st) _ b .1 in
-    let d = and-true (tableSound st table) _ c .1 in
-    let e = and-true (reportsSound (sheetAt st table)) _ d .1 in
-    let f = and-true (gridAgreed (sheetAt st table)) _ e .1 in
-    leb-true _ _ (and-true (leb (needed st) 65536) _ f .1)
-
-module _ (st : State) (table : List ℕ) (good : Good (sheetAt st table)) where
   -- the plain loops of every progression
   abbrev pub all : List (List Position)
   all = map (positionsFor st table) (span 0 (st .progressions))
 
-  once : (k : ℕ) → NoRepeats (positionsFor st table k)
-  once k = positions-once (sheetAt st table) (rangeOf st (changeOf st k)) (orderOf (changeOf st k .prg))
-
   all-once : NoneRepeats same (indexOf st) all
-  all-once ps i = let r = in-of-map (positionsFor st table) (span 0 (st .progressions)) i in subst (λ qs. NoRepeats qs) (r .2) (once (r .0))
+  all-once ps i = let r = in-of-map (positionsFor st table) (span 0 (st .progressions)) i in subst (λ qs. NoRepeats qs) (r .2) (once st table (r .0))
 
-  all-below : Below (indexOf st) (needed st) all
-  all-below ps i p j =
-      let r = in-of-map (positionsFor st table) (span 0 (st .progressions)) i in
-      let q : Progression = changeOf st (r .0) in
-      index-small (sheetAt st table) good (rangeOf st q) (orderOf (q .prg)) p (subst (λ qs. In p qs) (sym (r .2)) j) (layers-within st q)
-
-  module _ (marks : List ℕ) (h : stateSound st table marks ≡ true) (n : ℕ) (enough : (k : ℕ) → k < st .progressions → length (positionsFor st table k) < n) where
-    abbrev calls : Listing Position
+  module _ (marks : List ℕ) (h : stateSound st table marks ≡ true) (n : ℕ) (enough : needed st < n) where
+    abbrev calls : Hosted
     calls = callRuns n (st .progressions) st table marks 0
 
-    runs : calls ≡ runAll same (indexOf st) all marks
+    pub calls-went : Went marks 0 (st .progressions) calls
+    calls-went = runs-went n enough (st .progressions) 0 marks (omega arith) h
+
+    all-below : Below (indexOf st) (needed st) all
+    all-below ps i p j =
+        let r = in-of-map (positionsFor st table) (span 0 (st .progressions)) i in
+        mark-needed st table marks (sound-means st table marks .0 h) (r .0) p (subst (λ qs. In p qs) (sym (r .2)) j)
+
+    runs : listingOf calls ≡ runAll same (indexOf st) all marks
     runs =
         let e : 0 + st .progressions ≡ st .progressions = omega arith in
-        runs-run st table once n enough (st .progressions) 0 marks (omega arith) h
-        ∙ ap (λ (m : ℕ). runAll same (indexOf st) (map (positionsFor st table) (span 0 m)) marks) e
+        calls-went .lists-all ∙ ap (λ (m : ℕ). runAll same (indexOf st) (map (positionsFor st table) (span 0 m)) marks) e
 
     -- whatever the marks, the calls list what has no mark when it is reached
-    pub run-unlisted : calls ≡ listing (indexOf st) all marks
+    run-unlisted : listingOf calls ≡ listing (indexOf st) all marks
     run-unlisted = runs ∙ run-all same (indexOf st) all marks all-once
+
+    -- what is listed is some progression's
+    pub run-only : (p : Position) → In p (answered calls) → (k : ℕ) × (k < st .progressions) × In p (positionsFor st table k)
+    run-only p i =
+        let j : In p (joined all) = unlisted-within (indexOf st) marks (joined all) p (subst (λ (r : Listing Position). In p (r .packets)) run-unlisted i) in
+        let w = gathered-from (positionsFor st table) (span 0 (st .progressions)) (subst (λ (l : List Position). In p l) (gather-map (λ ps. ps) (positionsFor st table) _) j) in
+        (w .0, axis-bounds up up-grows (st .progressions - 0) 0 (st .progressions) (w .0) (omega arith) (w .1) .1, w .2)
 
     module _ (clear : (i : ℕ) → i < needed st → getD marks i 0 ≡ 0) where
       -- THE RUN: in order, one already listed left out, each exactly once; those marks set and no others
-      pub run-complete : Complete (indexOf st) all marks calls
-      run-complete = rw runs (run-all-complete same (indexOf st) all marks (needed st) all-once (marks-suffice st table marks h) all-below clear)
+      pub run-complete : Complete (indexOf st) all marks (listingOf calls)
+      run-complete =
+          rw runs (run-all-complete same (indexOf st) all marks (needed st) all-once (sound-means st table marks .0 h .marks-long) all-below clear)
 
       -- .. which is what `listed` says
-      pub run-listed : calls ≡ record { packets = Calls.listed st table; marks = marked (indexOf st) marks (Calls.listed st table) }
+      pub run-listed : listingOf calls ≡ record { packets = Calls.listed st table; marks = marked (indexOf st) marks (Calls.listed st table) }
       unfolding Calls.listed
       run-listed =
           run-unlisted
           ∙ ap (λ (l : List Position). record { packets = l; marks = marked (indexOf st) marks l }) (ap (λ (r : Listing Position). r .packets) (sym run-unlisted) ∙ run-complete .order)
+
+      -- every position of a progression is found in time, and its mark is set
+      all-marked : (k : ℕ) → k < st .progressions → (p : Position) → In p (positionsFor st table k) → getD (calls .marks) (indexOf st p) 0 ≡ 1
+      all-marked k l p i =
+          run-complete .set-marks (indexOf st p)
+          (subst (λ (r : Listing Position). In (indexOf st p) (indexes (indexOf st) (r .packets))) (sym run-unlisted)
+          (listed-of (indexOf st) marks (joined all) (indexOf st p) (zero-free marks (indexOf st p) (clear (indexOf st p) (mark-needed st table marks (sound-means st table marks .0 h) k p i)))
+          (in-map (indexOf st) (gathered (λ ps. ps) (in-map (positionsFor st table) (in-span k (st .progressions) 0 zero-le l)) i))))
+
+      -- so a step from any sound cursor finds nothing more
+      pub none-left : (c : cursor.Cursor) → sound st table (calls .marks) c ≡ true
+          → Calls.stepOf st table (calls .marks) c ≡ record { said = record { number = pos 0; packet = none; cursor = endedCursor (c .progression) }; marks = calls .marks }
+      none-left c s =
+          step-searches st table (calls .marks) c s
+          ∙ ap (Calls.stepBy st (calls .marks) (c .progression)) (found (seek (indexOf st) (calls .marks) (Calls.after (c .place) qs)) refl)
+        where
+          qs : List Position
+          qs = positionsFor st table (c .progression)
+
+          found : (a : Answer Position) → seek (indexOf st) (calls .marks) (Calls.after (c .place) qs) ≡ a → a ≡ Ended
+          found (Packet p) e =
+              let i = found-in same (indexOf st) qs (calls .marks) (asCursor (c .place)) p (ap (seek (indexOf st) (calls .marks)) (sym (after-as (c .place) qs)) ∙ e) in
+              let one = all-marked (c .progression) (all-sound-means st table (calls .marks) c .0 s .1 .0) p i in
+              let is-free = seek-is-free (indexOf st) (calls .marks) (Calls.after (c .place) qs) p e in
+              absurd (true≢false (sym is-free ∙ one-taken (calls .marks) (indexOf st p) one))
+          found Ended e = refl

@@ -13,7 +13,8 @@ use Rattle.words.specs.Words.{over}
 use Rattle.words.specs.Laws.{Bytes, word-small, over-length}
 use Rattle.geometry.specs.Line.{count}
 use Rattle.geometry.specs.Hits.{Ordered, count-small}
-use Rattle.packets.specs.Sheet.{wd, within, fieldsOf}
+use Rattle.types.specs.Ranges.{within}
+use Rattle.packets.specs.Sheet.{wd, fieldsOf}
 use Rattle.packets.specs.Tile.{Sheet, dxOf, dyOf, resOf, levelOf, lineX, lineY, width, height, reported, needed, entriesBefore, tableBytes}
 use Rattle.packets.specs.Grid.{gridAgreed}
 use Rattle.packets.specs.Table.{entry, tableOf, entryWord, sheetAt, sheetIn}
@@ -22,7 +23,7 @@ use Rattle.packets.specs.Readback.{table-length, table-word}
 use Rattle.packets.specs.Reading.{Read}
 use Rattle.packets.specs.Fields.{tile-good, component-range, exponent-range, components-sound, progressions-sound}
 use Rattle.packets.specs.Alike.{Alike, max-prec-same, max-res-same, dx-min-same, dy-min-same, grid-same}
-use Rattle.packets.specs.declared.state.State.{State}
+use Rattle.types.specs.declared.state.State.{State}
 
 -- the sheet b was read without a refusal; the table is laid over `old`, which is long enough
 module _ (b : List ℕ) (small : Bytes b) (good : Read b) (old : List ℕ) (room : tableBytes (fieldsOf b) ≤ length old) where

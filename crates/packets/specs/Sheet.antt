@@ -8,9 +8,10 @@ use lib.IntN.{ℤ, pos, negsuc}
 use Rattle.laws.specs.Axis.{span}
 use Rattle.laws.specs.Below.{allBelow}
 use Rattle.words.specs.Words.{wordAt}
-use Rattle.packets.specs.State.{noProgression}
-use Rattle.packets.specs.declared.state.Progression.{Progression}
-use Rattle.packets.specs.declared.state.State.{State}
+use Rattle.types.specs.Ranges.{tileRange, componentRange, exponentRange, progressionRange}
+use Rattle.types.specs.State.{noProgression, noReports}
+use Rattle.types.specs.declared.state.Progression.{Progression}
+use Rattle.types.specs.declared.state.State.{State}
 
 -- 01: records of 32 bytes, eight words each; word k of record i, from 0
 abbrev pub wd : List ℕ → ℕ → ℕ → ℕ
@@ -20,26 +21,9 @@ wd s i k = wordAt s (32 * i + 4 * k)
 abbrev pub unnamed : List ℕ → ℕ → ℕ → Bool
 unnamed s i k = allBelow (λ j. eqb (wd s i (k + j)) 0) (8 - k)
 
-abbrev pub within : ℕ → ℕ → ℕ → Bool
-within lo hi x = leb lo x && leb x hi
-
 -- 01: within a record kind and unnamed words come before ranges. A verdict is the number that a refusal carries, or 0
 abbrev pub judged : Bool → Bool → ℕ
 judged shape range = cond shape (cond range 0 3) 2
-
--- 01, the ranges, field by field
-abbrev pub tileRange : ℕ → ℕ → ℕ → ℕ → ℕ → ℕ → ℕ → Bool
-tileRange tx0 ty0 tx1 ty1 layers components progressions =
-    leb tx0 tx1 && (leb ty0 ty1 && (within 1 65535 layers && (within 1 16 components && within 1 32 progressions)))
-
-abbrev pub componentRange : ℕ → ℕ → ℕ → Bool
-componentRange dx dy resolutions = within 1 255 dx && (within 1 255 dy && within 1 33 resolutions)
-
-abbrev pub exponentRange : ℕ → ℕ → Bool
-exponentRange pdx pdy = leb pdx 15 && leb pdy 15
-
-abbrev pub progressionRange : ℕ → ℕ → ℕ → Bool
-progressionRange resno0 layno1 resno1 = leb resno0 32 && (leb layno1 65535 && leb resno1 33)
 
 -- 01, the table of kinds: record i as a tile, a component, a resolution, and a progression of kind 4 or of kind 5, which wants a progression count of 1
 abbrev pub tileVerdict : List ℕ → ℕ → ℕ
@@ -75,9 +59,9 @@ recordVerdict s count i d =
     cond (ltb 0 (d .resolutions)) (resolutionVerdict s i)
     (cond (ltb 0 (d .components)) (componentVerdict s i) (cond (ltb 0 (d .progressions)) (progressionVerdict s count i) 2))
 
--- what is due behind record i
-unfoldable pub dueBehind : List ℕ → ℕ → Due → Due
-dueBehind s i d =
+-- what is due after record i
+unfoldable pub dueAfter : List ℕ → ℕ → Due → Due
+dueAfter s i d =
     cond (ltb 0 (d .resolutions)) (due (d .resolutions - 1) (d .components) (d .progressions))
     (cond (ltb 0 (d .components)) (due (wd s i 3) (d .components - 1) (d .progressions)) (due 0 0 (d .progressions - 1)))
 
@@ -89,7 +73,7 @@ complete d = eqb (d .resolutions) 0 && (eqb (d .components) 0 && eqb (d .progres
 unfoldable pub readFrom : List ℕ → ℕ → ℕ → ℕ → Due → ℕ
 readFrom s count zero i d = cond (complete d) 0 2
 readFrom s count (suc n) i d =
-    let rest = readFrom s count n (i + 1) (dueBehind s i d) in
+    let rest = readFrom s count n (i + 1) (dueAfter s i d) in
     let v = recordVerdict s count i d in
     cond (eqb v 0) rest v
 
@@ -143,8 +127,5 @@ fieldsOf s =
       dy = arrayOf 16 0 (λ c. wd s (componentRecord s c) 2) (wd s 0 6);
       resolutions = arrayOf 16 0 (λ c. wd s (componentRecord s c) 3) (wd s 0 6);
       changes = arrayOf 32 noProgression (λ k. progressionAt s (progressionRecord s k)) (wd s 0 7);
-      «max_prec» = 0;
-      «max_res» = 0;
-      «dx_min» = 0;
-      «dy_min» = 0;
+      reports = noReports;
     }

@@ -9,15 +9,17 @@ use Rattle.laws.specs.NestOnce.{Within}
 use Rattle.laws.specs.NestStride.{withNext, nest-inner, nest-inside}
 use Rattle.laws.specs.NestClip.{nest-same-next}
 use Rattle.laws.specs.NestSkip.{turn-skip}
-use Rattle.packets.specs.State.{origin}
+use Rattle.types.specs.State.{origin}
 use Rattle.packets.specs.Tile.{Sheet}
-use Rattle.packets.specs.Orders.{Order, lrcp, rlcp, rpcl, pcrl, cprl, other, Range}
+use Rattle.types.specs.declared.order.Order.{Order}
+use Rattle.types.specs.declared.order.Order.the-variants.{Lrcp as lrcp, Rlcp as rlcp, Rpcl as rpcl, Pcrl as pcrl, Cprl as cprl, NoPositions as other}
+use Rattle.types.specs.declared.order.Range.{Range}
 use Rattle.packets.specs.Positions.{rows, columns}
 use Rattle.packets.specs.Strided.{For, oneResolution, oneComponent, everything, pointsFor, outerLoops, innerLoops, packetLoops, pointLoops, strided, NextRow, NextColumn, outer-within, row-free, row-passed, column-passed}
-use Rattle.packets.specs.declared.cursor.Position.{Position}
+use Rattle.types.specs.declared.cursor.Position.{Position}
 
 module _ (s : Sheet) (g : Range) where
-  -- THE TURNS of the loops over every point: behind a row or a column they go on at any that may be next, clipped to the end, with the inner loops fresh
+  -- THE TURNS of the loops over every point: after a row or a column they go on at any that may be next, clipped to the end, with the inner loops fresh
   module _ (w : For) (p : Position) (i : Within (outerLoops g w) p) (r : Position → ℕ) (rs : List (Position → ℕ)) (o : List Position) where
     pub skip-rows : Fresh (columns s ∷ (innerLoops g w ++ packetLoops s g)) rs → (y z : ℕ) → s .st .ty0 ≤ y → NextRow s g w p y z → r p ≡ min z (s .st .ty1)
         → later (rows s) (columns s ∷ (innerLoops g w ++ packetLoops s g)) p y ++ o ≡ resumed (rows s ∷ columns s ∷ (innerLoops g w ++ packetLoops s g)) (r ∷ rs) p ++ o

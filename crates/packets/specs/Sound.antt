@@ -6,18 +6,19 @@ use lib.ListN.{length}
 use lib.Dec.{ltb, leb, eqb}
 use lib.IntN.{ℤ, pos, negsuc}
 use Rattle.laws.specs.Below.{allBelow}
-use Rattle.packets.specs.Sheet.{tileRange, componentRange, exponentRange, progressionRange}
+use Rattle.types.specs.Signed.{isZero}
+use Rattle.types.specs.Ranges.{tileRange, componentRange, exponentRange, progressionRange}
 use Rattle.packets.specs.Tile.{Sheet, dxOf, dyOf, resOf, width, height, maxPrec, maxRes, dxMin, dyMin, needed, tableBytes}
 use Rattle.packets.specs.Grid.{everywhere, changeOf, gridAgreed}
 use Rattle.packets.specs.Positions.{positionsOf}
 use Rattle.packets.specs.Table.{entryWord, sheetAt}
 use Rattle.packets.specs.Same.{samePosition}
-use Rattle.packets.specs.declared.state.Progression.{Progression}
-use Rattle.packets.specs.declared.state.State.{State}
-use Rattle.packets.specs.declared.cursor.Position.{Position}
-use Rattle.packets.specs.declared.cursor.Place.{Place}
-use Rattle.packets.specs.declared.cursor.Place.the-variants.{Fresh, At, Ended}
-use Rattle.packets.specs.declared.cursor.Cursor.{Cursor}
+use Rattle.types.specs.declared.state.Progression.{Progression}
+use Rattle.types.specs.declared.state.State.{State}
+use Rattle.types.specs.declared.cursor.Position.{Position}
+use Rattle.types.specs.declared.cursor.Place.{Place}
+use Rattle.types.specs.declared.cursor.Place.the-variants.{Fresh, At, Ended}
+use Rattle.types.specs.declared.cursor.Cursor.{Cursor}
 
 -- 01: every rule and range holds. The tile record's
 abbrev pub tileGood : State → Bool
@@ -28,11 +29,6 @@ unfoldable pub componentsSound : State → Bool
 componentsSound st =
     allBelow (λ c. componentRange (dxOf st c) (dyOf st c) (resOf st c)) (st .components)
     && allBelow (λ c. eqb (dxOf st (st .components + c)) 0 && (eqb (dyOf st (st .components + c)) 0 && eqb (resOf st (st .components + c)) 0)) (16 - st .components)
-
-abbrev pub isZero : ℤ → Bool
-isZero (pos zero) = true
-isZero (pos (suc n)) = false
-isZero (negsuc n) = false
 
 -- the words that kind 5 does not name are 0
 abbrev pub noRange : Progression → Bool
@@ -62,7 +58,7 @@ tableSound st table = leb (tableBytes st) (length table) && everywhere st (entry
 -- 01: the numbers that setup reports are those its fields give
 unfoldable pub reportsSound : Sheet → Bool
 reportsSound s =
-    eqb (s .st .«max_prec») (maxPrec s) && (eqb (s .st .«max_res») (maxRes (s .st)) && (eqb (s .st .«dx_min») (dxMin s) && eqb (s .st .«dy_min») (dyMin s)))
+    eqb (s .st .reports .«max_prec») (maxPrec s) && (eqb (s .st .reports .«max_res») (maxRes (s .st)) && (eqb (s .st .reports .«dx_min») (dxMin s) && eqb (s .st .reports .«dy_min») (dyMin s)))
 
 -- 01: at most 65,536 marks are needed, and the marks suffice
 abbrev pub marksSound : State → List ℕ → Bool

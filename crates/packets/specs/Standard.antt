@@ -8,11 +8,13 @@ use Rattle.laws.specs.Gather.{gather}
 use Rattle.laws.specs.Counter.{tallied}
 use Rattle.laws.specs.Nest.{Loop, nest}
 use Rattle.geometry.specs.Line.{hitAt}
-use Rattle.packets.specs.State.{origin}
+use Rattle.types.specs.State.{origin}
 use Rattle.packets.specs.Tile.{Sheet, resOf, lineX, lineY, precincts}
-use Rattle.packets.specs.Orders.{Order, lrcp, rlcp, rpcl, pcrl, cprl, other, Range}
+use Rattle.types.specs.declared.order.Order.{Order}
+use Rattle.types.specs.declared.order.Order.the-variants.{Lrcp as lrcp, Rlcp as rlcp, Rpcl as rpcl, Pcrl as pcrl, Cprl as cprl, NoPositions as other}
+use Rattle.types.specs.declared.order.Range.{Range}
 use Rattle.packets.specs.Positions.{layers, resolutions, components, rows, columns, everyPrecinct, hasPositions}
-use Rattle.packets.specs.declared.cursor.Position.{Position}
+use Rattle.types.specs.declared.cursor.Position.{Position}
 
 -- the point test of B.12.1.3 to B.12.1.5, both lines needed; a resolution that the component has not got is passed over
 unfoldable pub tested : Sheet → Position → Bool

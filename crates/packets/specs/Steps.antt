@@ -4,23 +4,24 @@ use mathlib.Core.Bool.{true, false}
 use mathlib.Core.List.{List}
 use mathlib.Core.Option.{some, none}
 use Prim.Native.Nat.{ℕ, _<_}
-use lib.ListN.{length, length-set}
+use lib.ListN.{length}
 use lib.Dec.{ltb}
 use lib.IntN.{pos}
 use borrow.Author.Tests.{lt-ltb}
 use Rattle.laws.specs.Cases.{and-true, and-both}
+use Rattle.laws.specs.Marks.{mark-length}
 use Rattle.laws.specs.Runs.{Answer, Packet, Ended, Cursor, fresh, at, ended, seek, mark, after as behindCursor, found-in}
-use Rattle.packets.specs.State.{freshCursor, endedCursor}
+use Rattle.types.specs.State.{freshCursor, endedCursor}
 use Rattle.packets.specs.Tile.{indexOf}
 use Rattle.packets.specs.Sound.{stateSound, placeSound, positionsFor, cursorSound, sound}
 use Rattle.packets.specs.Same.{same}
 use Rattle.packets.specs.Calls.{after, refusal, stepBy, stepOf, openOf}
 use Rattle.packets.specs.Inside.{in-is}
-use Rattle.packets.specs.declared.state.State.{State}
-use Rattle.packets.specs.declared.cursor.Position.{Position}
-use Rattle.packets.specs.declared.cursor.Place.{Place}
-use Rattle.packets.specs.declared.cursor.Place.the-variants as place
-use Rattle.packets.specs.declared.cursor.Cursor as cursor
+use Rattle.types.specs.declared.state.State.{State}
+use Rattle.types.specs.declared.cursor.Position.{Position}
+use Rattle.types.specs.declared.cursor.Place.{Place}
+use Rattle.types.specs.declared.cursor.Place.the-variants as place
+use Rattle.types.specs.declared.cursor.Cursor as cursor
 
 -- a place, in the words of the laws of runs
 abbrev pub asCursor : Place → Cursor Position
@@ -79,7 +80,7 @@ module _ (st : State) (table marks : List ℕ) (c : cursor.Cursor) where
           → sound st table (stepBy st marks (c .progression) a .marks) (stepBy st marks (c .progression) a .said .cursor) ≡ true
       by (Packet p) e =
           sound-made st table (mark (indexOf st) marks p) (c .progression) (place.At p)
-          (sound-length st table (mark (indexOf st) marks p) marks (length-set marks (indexOf st p) 1) ∙ sound-parts h .0)
+          (sound-length st table (mark (indexOf st) marks p) marks (mark-length marks (indexOf st p)) ∙ sound-parts h .0)
           (names-progression h)
           (in-is p ps (found-in same (indexOf st) ps marks (asCursor (c .place)) p (ap (seek (indexOf st) marks) (sym (after-as (c .place) ps)) ∙ e)))
       by Ended e = sound-made st table marks (c .progression) place.Ended (sound-parts h .0) (names-progression h) refl

@@ -12,11 +12,13 @@ use Rattle.laws.specs.Members.{gather-none}
 use Rattle.laws.specs.Nest.{Loop, nest, turns}
 use Rattle.laws.specs.NestOnce.{Within, Kept, nest-within, nest-kept, turn-bounds}
 use Rattle.laws.specs.NestStride.{withNext, nest-stride, nest-inner, nest-inside, nest-none}
-use Rattle.packets.specs.State.{origin}
+use Rattle.types.specs.State.{origin}
 use Rattle.packets.specs.Tile.{Sheet}
-use Rattle.packets.specs.Orders.{Order, lrcp, rlcp, rpcl, pcrl, cprl, other, Range}
+use Rattle.types.specs.declared.order.Order.{Order}
+use Rattle.types.specs.declared.order.Order.the-variants.{Lrcp as lrcp, Rlcp as rlcp, Rpcl as rpcl, Pcrl as pcrl, Cprl as cprl, NoPositions as other}
+use Rattle.types.specs.declared.order.Range.{Range}
 use Rattle.packets.specs.Positions.{met, numberAt, layers, resolutions, components, rows, columns, thePrecinct, loopsOf, hasPositions, positionsIn}
-use Rattle.packets.specs.declared.cursor.Position.{Position}
+use Rattle.types.specs.declared.cursor.Position.{Position}
 
 -- THE NEST. What an order goes through all points of the tile for
 pub data For : Type 0 where

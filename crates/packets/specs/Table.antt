@@ -6,7 +6,7 @@ use Rattle.laws.specs.Axis.{span}
 use Rattle.words.specs.Words.{wordAt, wordsBytes}
 use Rattle.packets.specs.Sheet.{wd, resolutionRecord, fieldsOf}
 use Rattle.packets.specs.Tile.{Sheet, resOf, width, height, entriesBefore}
-use Rattle.packets.specs.declared.state.State.{State}
+use Rattle.types.specs.declared.state.State.{State}
 
 -- 01: four words for each resolution (pdx, pdy, width, height), component after component
 abbrev pub entry : Sheet → ℕ → ℕ → List ℕ

@@ -8,7 +8,7 @@ use Rattle.laws.specs.Gather.{gather}
 use Rattle.packets.specs.Tile.{reported, tableBytes}
 use Rattle.packets.specs.Table.{sheetIn}
 use Rattle.packets.specs.Calls.{accepted, setupVerdict, listed}
-use Rattle.packets.specs.declared.cursor.Position.{Position}
+use Rattle.types.specs.declared.cursor.Position.{Position}
 
 -- the decimal digits of n, at most as many as the first argument says
 unfoldable pub digitsUpTo : ℕ → ℕ → List ℕ

@@ -6,8 +6,9 @@ use lib.ListN.{getD}
 use lib.Dec.{ltb, leb}
 use Rattle.laws.specs.Below.{maxBelow, minBelow, sumBelow}
 use Rattle.geometry.specs.Line.{Line, step, count}
-use Rattle.packets.specs.declared.state.State.{State}
-use Rattle.packets.specs.declared.cursor.Position.{Position}
+use Rattle.types.specs.declared.state.Reports.{Reports}
+use Rattle.types.specs.declared.state.State.{State}
+use Rattle.types.specs.declared.cursor.Position.{Position}
 
 -- what a sheet says: its fields, and the precinct exponents of resolution r of component c
 pub record Sheet : Type 0 where
@@ -64,7 +65,11 @@ dxMin s = minBelow 2147483647 (λ c. minBelow 2147483647 (λ r. fitting (step (l
 unfoldable pub dyMin : Sheet → ℕ
 dyMin s = minBelow 2147483647 (λ c. minBelow 2147483647 (λ r. fitting (step (lineY s c r))) (resOf (s .st) c)) (s .st .components)
 
--- the state with what setup reports
+-- what setup reports
+abbrev pub reportsOf : Sheet → Reports
+reportsOf s = record { «max_prec» = maxPrec s; «max_res» = maxRes (s .st); «dx_min» = dxMin s; «dy_min» = dyMin s }
+
+-- the state with it
 unfoldable pub reported : Sheet → State
 reported s =
     let st : State = s .st in
@@ -80,21 +85,18 @@ reported s =
       dy = st .dy;
       resolutions = st .resolutions;
       changes = st .changes;
-      «max_prec» = maxPrec s;
-      «max_res» = maxRes st;
-      «dx_min» = dxMin s;
-      «dy_min» = dyMin s;
+      reports = reportsOf s;
     }
 
 -- 01, 'Strides': precinct 1, component = largest count, resolution = components times that, layer = largest resolutions times that
 abbrev pub strideC : State → ℕ
-strideC st = st .«max_prec»
+strideC st = st .reports .«max_prec»
 
 abbrev pub strideR : State → ℕ
 strideR st = st .components * strideC st
 
 abbrev pub strideL : State → ℕ
-strideL st = st .«max_res» * strideR st
+strideL st = st .reports .«max_res» * strideR st
 
 -- 01: marks needed = layers times the layer stride
 unfoldable pub needed : State → ℕ

@@ -1,31 +1,33 @@
--- The whole run is setup, followed by the calls that a host would make: every progression in turn until it ends. Assumes nothing.
-use mathlib.Core.Path.{_≡_, sym, ap}
+-- What an accepted sheet has passed; that its state is sound and its needed marks are clear; and that the whole run is setup, followed by the calls that a host
+-- would make: every progression in turn until it ends. Assumes nothing.
+use mathlib.Core.Path.{_≡_, sym, ap, _∙_}
 use mathlib.Core.Bool.{true}
 use mathlib.Core.List.{List}
-use Prim.Native.Nat.{ℕ, _-_, _≤_, _<_}
+use Prim.Native.Nat.{ℕ, _+_, _-_, _*_, _≤_, _<_}
 use native.Mathlib.Omega.{arith}
 use lib.ListN.{length, getD, drop, replicate, length-replicate, getD-replicate, List·getD-append}
+use lib.Seq.{getD-append-add, getD-drop}
 use lib.Dec.{leb, eqb}
 use lib.IntN.{pos}
-use borrow.Author.Tests.{leb-true, eqb-true, eqb-false, eq-eqb}
+use borrow.Author.Tests.{leb-true, le-leb, eqb-true, eqb-false, eq-eqb}
 use Rattle.laws.specs.Cases.{split, cond-zero}
-use Rattle.laws.specs.AllRuns.{Listing, Complete}
+use Rattle.laws.specs.AllRuns.{Listing}
 use Rattle.words.specs.Words.{over}
 use Rattle.words.specs.Laws.{Bytes, over-length}
 use Rattle.packets.specs.Sheet.{readVerdict, fieldsOf}
-use Rattle.packets.specs.Tile.{reported, needed, indexOf, entriesBefore, tableBytes}
+use Rattle.packets.specs.Tile.{reported, needed, entriesBefore, tableBytes}
 use Rattle.packets.specs.Grid.{gridAgreed}
 use Rattle.packets.specs.Table.{sheetIn, sheetAt}
-use Rattle.packets.specs.Sound.{stateSound, positionsFor}
-use Rattle.packets.specs.Calls.{refusal, Setup, setupVerdict, accepted, turnedAway, setupOf, recordsOf, runVerdict, ranOver, wholeRunOf}
-use Rattle.packets.specs.Host.{callRuns}
+use Rattle.packets.specs.Sound.{stateSound}
+use Rattle.packets.specs.Calls.{refusal, Setup, setupVerdict, accepted, setupOf, recordsOf, runVerdict, ranOver, wholeRunOf}
+use Rattle.packets.specs.Host.{mostSteps, hostCalls, answered}
 use Rattle.packets.specs.Reading.{read-good}
 use Rattle.packets.specs.SetupSound.{setup-sound}
 use Rattle.packets.specs.Meaning.{sound-good}
 use Rattle.packets.specs.Good.{Good}
-use Rattle.packets.specs.Run.{all, run-complete, run-listed}
-use Rattle.packets.specs.declared.state.State.{State}
-use Rattle.packets.specs.declared.cursor.Position.{Position}
+use Rattle.packets.specs.Run.{run-listed}
+use Rattle.types.specs.declared.state.State.{State}
+use Rattle.types.specs.declared.cursor.Position.{Position}
 
 -- what an accepted sheet has passed
 pub record Passed (sheet table marks : List ℕ) : Type 0 where
@@ -46,16 +48,29 @@ setup-passed sheet table marks e =
     let room = cond-zero (leb (tableBytes st) (length table)) 0 7 (λ t z. omega arith) (enough .1) in
     record { read = eqb-true _ _ (read .0); grid = grid .0; few = leb-true _ _ (few .0); enough = leb-true _ _ (enough .0); room = leb-true _ _ (room .0) }
 
--- a setup without a refusal is accepted; one with a refusal leaves everything lent as it was
+-- and the other way
+pub passed-setup : (sheet table marks : List ℕ) → Passed sheet table marks → setupVerdict sheet table marks ≡ 0
+unfolding setupVerdict
+passed-setup sheet table marks p = rw (p .read, p .grid, le-leb _ _ (p .few), le-leb _ _ (p .enough), le-leb _ _ (p .room))
+
 module _ (sheet table marks : List ℕ) where
+  -- a setup that answers 0 has no refusal
+  pub setup-verdict : setupOf sheet table marks .said .number ≡ pos 0 → setupVerdict sheet table marks ≡ 0
+  unfolding setupOf
+  setup-verdict e =
+      let v : ℕ = setupVerdict sheet table marks in
+      split (eqb v 0) (λ t. eqb-true v 0 t) (λ t. let z : refusal v ≡ pos 0 = rw t at e in cc)
+
+  -- one without a refusal is accepted
   pub setup-accepts : setupVerdict sheet table marks ≡ 0 → setupOf sheet table marks ≡ accepted sheet table marks
   unfolding setupOf
   setup-accepts e = rw (eq-eqb _ _ e)
 
-  pub setup-refuses : (setupVerdict sheet table marks ≡ 0 → ⊥) → setupOf sheet table marks ≡ turnedAway (setupVerdict sheet table marks) table marks
-  unfolding setupOf
-  setup-refuses n = split (eqb (setupVerdict sheet table marks) 0) (λ t. absurd (n (eqb-true _ _ t))) (λ t. rw t)
+  -- so one that answers 0 has passed all tests and is accepted
+  pub setup-zero : setupOf sheet table marks .said .number ≡ pos 0 → Passed sheet table marks × (setupOf sheet table marks ≡ accepted sheet table marks)
+  setup-zero e = let v = setup-verdict e in (setup-passed sheet table marks v, setup-accepts v)
 
+  -- a whole run with a refusal leaves everything lent as it was
   pub run-refuses : (output : List ℕ) → (runVerdict sheet table marks output ≡ 0 → ⊥)
       → wholeRunOf sheet table marks output ≡ record { number = refusal (runVerdict sheet table marks output); table = table; marks = marks; output = output }
   unfolding wholeRunOf
@@ -75,14 +90,12 @@ module _ (sheet table marks : List ℕ) (bytes : Bytes sheet) (p : Passed sheet 
   zeros-long : length zeros ≡ needed st
   zeros-long = let z : ℕ = 0 in length-replicate (needed st) z
 
-  enough-marks : needed st ≤ length (u .marks)
-  enough-marks =
-      let e : length (u .marks) ≡ length marks = over-length zeros marks (rw zeros-long (p .enough)) in
-      rw e (p .enough)
+  pub accepted-size : length (u .marks) ≡ length marks
+  accepted-size = over-length zeros marks (rw zeros-long (p .enough))
 
   -- setup's state, with the table and marks that it leaves, is sound
   pub accepted-sound : stateSound st (u .table) (u .marks) ≡ true
-  accepted-sound = setup-sound sheet bytes (read-good sheet (p .read)) table room (u .marks) (p .grid) (p .few) enough-marks
+  accepted-sound = setup-sound sheet bytes (read-good sheet (p .read)) table room (u .marks) (p .grid) (p .few) (rw accepted-size (p .enough))
     where
       room : tableBytes (fieldsOf sheet) ≤ length table
       room = unfold reported entriesBefore in p .room
@@ -97,21 +110,20 @@ module _ (sheet table marks : List ℕ) (bytes : Bytes sheet) (p : Passed sheet 
   pub accepted-good : Good (sheetAt st (u .table))
   accepted-good = sound-good st (u .table) (u .marks) accepted-sound
 
-  module _ (n : ℕ) (enough : (k : ℕ) → k < st .progressions → length (positionsFor st (u .table) k) < n) where
-    -- what the host's calls list and leave, from setup's answer on
-    abbrev pub calls : Listing Position
-    calls = callRuns n (st .progressions) st (u .table) (u .marks) 0
+  -- the marks beyond are as lent
+  pub accepted-beyond : (i : ℕ) → needed st ≤ i → getD (u .marks) i 0 ≡ getD marks i 0
+  accepted-beyond i h =
+      let e : i ≡ length zeros + (i - needed st) = rw zeros-long (omega arith) in
+      rw e (getD-append-add zeros (drop (length zeros) marks) (i - needed st) 0 ∙ getD-drop (length zeros) marks (i - needed st) 0)
 
-    -- THEOREM 4 (demand 3)
-    pub setup-run : Complete (indexOf st) (all st (u .table) accepted-good) (u .marks) calls
-    setup-run = run-complete st (u .table) accepted-good (u .marks) accepted-sound n enough accepted-clear
-
-    -- THE WHOLE RUN IS THAT SAME RUN
-    pub whole-run-calls : (output : List ℕ) → runVerdict sheet table marks output ≡ 0
-        → wholeRunOf sheet table marks output
-        ≡ record { number = pos (length (calls .packets)); table = u .table; marks = calls .marks; output = over (recordsOf (calls .packets)) output }
-    unfolding wholeRunOf ranOver
-    whole-run-calls output e =
-        rw (eq-eqb _ _ e)
-        (ap (λ (r : Listing Position). record { number = pos (length (r .packets)); table = u .table; marks = r .marks; output = over (recordsOf (r .packets)) output })
-        (sym (run-listed st (u .table) accepted-good (u .marks) accepted-sound n enough accepted-clear)))
+  -- THE WHOLE RUN IS THE RUN THAT A HOST'S CALLS MAKE, where the output has room
+  pub whole-run-calls : (output : List ℕ) → 16 * needed st ≤ length output
+      → (let r = hostCalls st (u .table) (u .marks) in
+      wholeRunOf sheet table marks output
+      ≡ record { number = pos (length (answered r)); table = u .table; marks = r .marks; output = over (recordsOf (answered r)) output })
+  unfolding wholeRunOf runVerdict ranOver hostCalls
+  whole-run-calls output room =
+      let few = p .few in
+      rw (passed-setup sheet table marks p, le-leb _ _ room)
+      (ap (λ (r : Listing Position). record { number = pos (length (r .packets)); table = u .table; marks = r .marks; output = over (recordsOf (r .packets)) output })
+      (sym (run-listed st (u .table) (u .marks) accepted-sound mostSteps (omega arith) accepted-clear)))

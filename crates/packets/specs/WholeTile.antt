@@ -14,13 +14,15 @@ use Rattle.laws.specs.Gathered.{gathered, gathered-all, Keyed, keyed-from, gath
 use Rattle.laws.specs.Members.{in-span}
 use Rattle.laws.specs.Mapped.{map-no-repeats}
 use Rattle.packets.specs.Tile.{Sheet, resOf, precincts}
-use Rattle.packets.specs.Orders.{Order, other, wholeTile, componentsGood}
+use Rattle.types.specs.Orders.{wholeTile, componentsGood, byPoints}
+use Rattle.types.specs.declared.order.Order.{Order}
+use Rattle.types.specs.declared.order.Order.the-variants.{NoPositions as other}
 use Rattle.packets.specs.Positions.{hasPositions, positionsIn}
 use Rattle.packets.specs.Good.{Good}
 use Rattle.packets.specs.Met.{met-some}
-use Rattle.packets.specs.Inside.{Inside, InRange, byPoints, in-range, inside, good-has, listed-point, listed-still}
+use Rattle.packets.specs.Inside.{Inside, InRange, in-range, inside, good-has, listed-point, listed-still}
 use Rattle.packets.specs.Once.{positions-once, packet-once, below-deepest}
-use Rattle.packets.specs.declared.cursor.Position.{Position}
+use Rattle.types.specs.declared.cursor.Position.{Position}
 
 -- a packet, whichever order lists it
 pub record Packet : Type 0 where

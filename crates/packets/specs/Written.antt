@@ -16,8 +16,8 @@ use Rattle.words.specs.Laws.{word-of, bytes-length}
 use Rattle.packets.specs.Sheet.{wd, componentRecord}
 use Rattle.packets.specs.Tile.{Sheet, dxOf, dyOf, resOf}
 use Rattle.packets.specs.Grid.{changeOf}
-use Rattle.packets.specs.declared.state.Progression.{Progression}
-use Rattle.packets.specs.declared.state.State.{State}
+use Rattle.types.specs.declared.state.Progression.{Progression}
+use Rattle.types.specs.declared.state.State.{State}
 
 -- 01: prg is read as signed (two's complement); written so
 abbrev pub unsigned : ℤ → ℕ

@@ -1,5 +1,1 @@
-// What the packet iterator speaks of: a sheet's state, its progressions, positions and cursors, and the answers of its calls.
-// What is right of them stands in specs/.
-pub mod answer;
-pub mod cursor;
-pub mod state;
+// What is right of packets, and the theorems about it, stand in specs/: there is no code here.

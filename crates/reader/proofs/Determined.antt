@@ -1,6 +1,6 @@
 -- Each public contract of this crate allows one answer only. Assumes nothing.
 use Rattle.laws.specs.Determined.{determined-by, OneAnswer}
-use Rattle.packets.specs.Answers.{ofSetUp}
+use Rattle.types.specs.Answers.{ofSetUp}
 use Rattle.packets.specs.Apart.{setup-apart}
 use Rattle.reader.proofs.read.Kinds as read-kinds
 use Rattle.reader.proofs.read.Reads as read

@@ -10,12 +10,13 @@ use lib.Dec.{leb}
 use borrow.Author.Tests.{leb-true}
 use Rattle.laws.specs.Cases.{le-or-lt, and-true}
 use Rattle.laws.specs.Filled.{filled-none, filled-more}
-use Rattle.packets.specs.State.{noProgression, emptyState}
-use Rattle.packets.specs.Sheet.{wd, within, componentRecord, progressionRecord, progressionAt, arrayOf, fieldsOf, readVerdict}
+use Rattle.types.specs.State.{noProgression, noReports, emptyState}
+use Rattle.types.specs.Ranges.{within}
+use Rattle.packets.specs.Sheet.{wd, componentRecord, progressionRecord, progressionAt, arrayOf, fieldsOf, readVerdict}
 use Rattle.packets.specs.Fields.{tile-good}
 use Rattle.packets.specs.Reading.{read-good}
-use Rattle.packets.specs.declared.state.Progression.{Progression}
-use Rattle.packets.specs.declared.state.State.{State}
+use Rattle.types.specs.declared.state.Progression.{Progression}
+use Rattle.types.specs.declared.state.State.{State}
 
 -- a state by the tile's words of s and its arrays
 abbrev withArrays : List ℕ → List ℕ → List ℕ → List ℕ → List Progression → State
@@ -32,10 +33,7 @@ withArrays s dx dy resolutions changes =
       dy = dy;
       resolutions = resolutions;
       changes = changes;
-      «max_prec» = 0;
-      «max_res» = 0;
-      «dx_min» = 0;
-      «dy_min» = 0;
+      reports = noReports;
     }
 
 -- what is written: the tile's words, a component, a progression
@@ -56,10 +54,7 @@ putComponent st c dx dy resolutions =
       dy = set (st .dy) c dy;
       resolutions = set (st .resolutions) c resolutions;
       changes = st .changes;
-      «max_prec» = st .«max_prec»;
-      «max_res» = st .«max_res»;
-      «dx_min» = st .«dx_min»;
-      «dy_min» = st .«dy_min»;
+      reports = st .reports;
     }
 
 abbrev putChange : State → ℕ → Progression → State
@@ -76,10 +71,7 @@ putChange st k one =
       dy = st .dy;
       resolutions = st .resolutions;
       changes = set (st .changes) k one;
-      «max_prec» = st .«max_prec»;
-      «max_res» = st .«max_res»;
-      «dx_min» = st .«dx_min»;
-      «dy_min» = st .«dy_min»;
+      reports = st .reports;
     }
 
 module _ (s : List ℕ) where
@@ -145,7 +137,7 @@ reach s e =
       records = λ c h. omega (arith, record-later s (wd s 0 6) c h, r .size, r .short);
     }
 
--- THE LOOPS. Behind the first c components the next record is number `at`; behind all of them, k progressions were read
+-- THE LOOPS. After the first c components the next record is number `at`; after all of them, k progressions were read
 pub record Components (s : List ℕ) (components : ℕ) (out : State) (at c : ℕ) : Type 0 where
   pub passed : c ≤ components
   pub few : components ≤ 16

@@ -1,4 +1,4 @@
--- Reading record by record: a good one leads to the next, a bad one decides, and behind the last nothing may be missing. Assumes nothing.
+-- Reading record by record: a good one leads to the next, a bad one decides, and after the last nothing may be missing. Assumes nothing.
 use mathlib.Core.Path.{_≡_}
 use mathlib.Core.Bool.{Bool, true, false, _&&_}
 use mathlib.Core.List.{List}
@@ -8,10 +8,11 @@ use lib.ListN.{length}
 use borrow.Author.Tests.{lt-ltb, le-leb, eq-eqb}
 use lib.Dec.{ltb, eqb}
 use Rattle.laws.specs.Cases.{split}
-use Rattle.packets.specs.Sheet.{wd, unnamed, judged, tileRange, componentRange, exponentRange, progressionRange, tileVerdict, componentVerdict, resolutionVerdict, volumeVerdict, wholeTileVerdict, progressionVerdict, Due, due, recordVerdict, dueBehind, complete, readFrom, lengthGood, readVerdict}
+use Rattle.types.specs.Ranges.{tileRange, componentRange, exponentRange, progressionRange}
+use Rattle.packets.specs.Sheet.{wd, unnamed, judged, tileVerdict, componentVerdict, resolutionVerdict, volumeVerdict, wholeTileVerdict, progressionVerdict, Due, due, recordVerdict, dueAfter, complete, readFrom, lengthGood, readVerdict}
 
 module _ (s : List ℕ) (count n i : ℕ) (d : Due) where
-  pub read-more : i < n → recordVerdict s count i d ≡ 0 → readFrom s count (n - i) i d ≡ readFrom s count (n - (i + 1)) (i + 1) (dueBehind s i d)
+  pub read-more : i < n → recordVerdict s count i d ≡ 0 → readFrom s count (n - i) i d ≡ readFrom s count (n - (i + 1)) (i + 1) (dueAfter s i d)
   unfolding readFrom
   read-more h g = let e : n - i ≡ suc (n - (i + 1)) = omega arith in rw (e, g)
 
@@ -36,7 +37,7 @@ module _ (s : List ℕ) (count i : ℕ) where
   pub of-kind-4 : eqb (wd s i 0) 5 ≡ false → progressionVerdict s count i ≡ volumeVerdict s i
   of-kind-4 e = rw e
 
--- the whole sheet: its length, then the tile's record, then the records behind it
+-- the whole sheet: its length, then the tile's record, then the records after it
 module _ (s : List ℕ) where
   pub good-length : 0 < length s → length s % 32 ≡ 0 → length s ≤ 32 * 577 → lengthGood s ≡ true
   good-length a b c = rw (lt-ltb 0 (length s) a, eq-eqb (length s % 32) 0 b, le-leb (length s) (32 * 577) c)
@@ -90,7 +91,7 @@ module _ (s : List ℕ) where
   unfolding readFrom
   from-small count zero i d = split (complete d) (λ t. rw t (omega arith)) (λ t. rw t (omega arith))
   from-small count (suc n) i d =
-      split (eqb (recordVerdict s count i d) 0) (λ t. rw t (from-small count n (i + 1) (dueBehind s i d))) (λ t. rw t (record-small count i d))
+      split (eqb (recordVerdict s count i d) 0) (λ t. rw t (from-small count n (i + 1) (dueAfter s i d))) (λ t. rw t (record-small count i d))
 
   pub verdict-small : readVerdict s ≤ 3
   unfolding readVerdict

@@ -4,13 +4,13 @@ use mathlib.Core.Bool.{cond}
 use mathlib.Core.List.{List}
 use lib.Dec.{eqb}
 use lib.IntN.{pos}
-use Rattle.packets.specs.State.{emptyState}
+use Rattle.types.specs.State.{emptyState}
 use Rattle.packets.specs.Sheet as sheet
 use Rattle.packets.specs.Sheet.{readVerdict, fieldsOf}
-use Rattle.packets.specs.Answers.{SetUpSaid}
+use Rattle.types.specs.Answers.{SetUpSaid}
 use Rattle.packets.specs.Calls.{refusal}
-use Rattle.packets.specs.declared.answer.Verdict.{Verdict}
-use Rattle.packets.specs.declared.answer.Verdict.the-variants.{Accepted, Length, Shape, Range}
+use Rattle.types.specs.declared.answer.Verdict.{Verdict}
+use Rattle.types.specs.declared.answer.Verdict.the-variants.{Accepted, Length, Shape, Range}
 use Rattle.reader.specs.declared.judge.Due.{Due}
 
 -- what is due, in the words of the definitions

@@ -1,7 +1,7 @@
 // The fields of a sheet that has no refusal, by where their records stand.
 use crate::judge::word;
-use packets::state::Progression;
-use packets::state::State;
+use types::state::Progression;
+use types::state::State;
 ghost use mathlib.Core.Path.{_≡_};
 ghost use Prim.Native.Nat.{_≤_};
 ghost use Rattle.packets.specs.Sheet.{signedOf, progressionAt, readVerdict, fieldsOf};

@@ -1,11 +1,11 @@
 // The verdict on a sheet: its records in order, the first bad one decides. A verdict is the number that a refusal carries, or 0.
-use packets::state::Progression;
-use packets::state::State;
+use types::state::Progression;
+use types::state::State;
 use words::word_at;
 ghost use mathlib.Core.Path.{_≡_};
 ghost use Prim.Native.Nat.{_-_, _/_, _%_, _≤_, _<_};
 ghost use lib.ListN.{length};
-ghost use Rattle.packets.specs.Sheet.{wd, unnamed, judged, tileVerdict, componentVerdict, resolutionVerdict, progressionVerdict, volumeVerdict, wholeTileVerdict, recordVerdict, dueBehind, complete, readFrom, readVerdict, due};
+ghost use Rattle.packets.specs.Sheet.{wd, unnamed, judged, tileVerdict, componentVerdict, resolutionVerdict, progressionVerdict, volumeVerdict, wholeTileVerdict, recordVerdict, dueAfter, complete, readFrom, readVerdict, due};
 ghost use Rattle.reader.specs.Reader.{dueOf};
 
 // What is still due: resolutions of the component at hand, components, progressions.
@@ -26,7 +26,7 @@ pub(crate) fn word(s: &[u8], i: usize, k: usize) -> u32
     requires { ⌜ (i ≤ 1000) × (k ≤ 8) ⌝ }
     ensures { λ r. ⌜ r ≡ wd (now (s .entry)) i k ⌝ }
 {
-    word_at(s, 32 * i + 4 * k)
+    word_at(s, State::RECORD_BYTES * i + 4 * k)
 }
 
 // The words of record i from word k on are 0. None of them ends the loop, so that the compiler makes one test of all.
@@ -123,10 +123,10 @@ fn record_verdict(s: &[u8], count: u32, i: usize, d: Due) -> u32
     2
 }
 
-// What is due behind record i.
-fn due_behind(s: &[u8], i: usize, d: Due) -> Due
+// What is due after record i.
+fn due_after(s: &[u8], i: usize, d: Due) -> Due
     requires { ⌜ i ≤ 1000 ⌝ }
-    ensures { λ r. ⌜ dueOf r ≡ dueBehind (now (s .entry)) i (dueOf d) ⌝ }
+    ensures { λ r. ⌜ dueOf r ≡ dueAfter (now (s .entry)) i (dueOf d) ⌝ }
 {
     if 0 < d.resolutions {
         return Due {
@@ -163,7 +163,7 @@ fn complete(d: Due) -> bool
     (d.resolutions == 0) & ((d.components == 0) & (d.progressions == 0))
 }
 
-// The records behind the tile's. The loop asks for a record's bytes, so that no word of it is asked for again.
+// The records after the tile's. The loop asks for a record's bytes, so that no word of it is asked for again.
 fn read_records(s: &[u8], components: u32, progressions: u32) -> u32
     requires { ⌜ (0 < length (now s)) × (length (now s) % 32 ≡ 0) × (length (now s) ≤ 18464) ⌝ }
     ensures { λ r. ⌜ r ≡ readFrom (now (s .entry)) progressions (length (now (s .entry)) / 32 - 1) 1 (due 0 components progressions) ⌝ }
@@ -174,12 +174,12 @@ fn read_records(s: &[u8], components: u32, progressions: u32) -> u32
         progressions,
     };
     let mut i: usize = 1;
-    while 32 * i + 32 <= s.len() {
+    while State::RECORD_BYTES * i + State::RECORD_BYTES <= s.len() {
         let v = record_verdict(s, progressions, i, d);
         if v != 0 {
             return v;
         }
-        d = due_behind(s, i, d);
+        d = due_after(s, i, d);
         i += 1;
     }
     if complete(d) { 0 } else { 2 }
@@ -193,10 +193,10 @@ pub(crate) fn read_verdict(s: &[u8]) -> u32
     if n == 0 {
         return 1;
     }
-    if n % 32 != 0 {
+    if n % State::RECORD_BYTES != 0 {
         return 1;
     }
-    if 32 * State::MAX_RECORDS < n {
+    if State::RECORD_BYTES * State::MAX_RECORDS < n {
         return 1;
     }
     let v = tile_verdict(s, 0);

@@ -2,11 +2,11 @@
 mod fields;
 mod judge;
 
-use packets::answer::SetUp;
-use packets::answer::Verdict;
-use packets::state::State;
+use types::answer::SetUp;
+use types::answer::Verdict;
+use types::state::State;
 ghost use mathlib.Core.Path.{_≡_};
-ghost use Rattle.packets.specs.Answers.{ofSetUp};
+ghost use Rattle.types.specs.Answers.{ofSetUp};
 ghost use Rattle.reader.specs.Reader.{readOf, verdictOf};
 
 // A verdict from its number.

@@ -11,7 +11,9 @@ use Rattle.laws.specs.Below.{allBelow, maxBelow}
 use Rattle.laws.specs.Pointwise.{all-same}
 use Rattle.laws.specs.Extremes.{leb-max, all-leb, all-and}
 use Rattle.packets.specs.Tile.{Sheet, resOf}
-use Rattle.packets.specs.Orders.{Order, lrcp, rlcp, rpcl, pcrl, cprl, other, orderOf}
+use Rattle.types.specs.Orders.{orderOf}
+use Rattle.types.specs.declared.order.Order.{Order}
+use Rattle.types.specs.declared.order.Order.the-variants.{Lrcp as lrcp, Rlcp as rlcp, Rpcl as rpcl, Pcrl as pcrl, Cprl as cprl, NoPositions as other}
 use Rattle.packets.specs.Grid.{everywhere, stepX, stepY, smallest, stepsFit, stepsDivide, agreed, changeOf, gridAgreed}
 use Rattle.survey.specs.Passing.{wantOf, wantedOf, hasWanted}
 use Rattle.survey.proofs.Over.{stepMost}

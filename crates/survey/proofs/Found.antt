@@ -9,19 +9,19 @@ use Rattle.laws.specs.Cases.{and-true}
 use Rattle.laws.specs.Below.{all-at}
 use Rattle.packets.specs.Tile.{Sheet, dxOf, dyOf, resOf, levelOf, maxPrec, maxRes, dxMin, dyMin, reported, needed}
 use Rattle.packets.specs.Grid.{stepX, stepY, stepsFit, stepsDivide, gridAgreed}
-use Rattle.packets.specs.declared.state.State.{State}
+use Rattle.types.specs.declared.state.State.{State}
 use Rattle.survey.specs.Passing.{wantedOf, multiples, hasWanted, agreedOf, neededOf, marksOf, findingsOf}
 use Rattle.survey.specs.declared.sums.Sums.{Sums}
 use Rattle.survey.specs.declared.places.Places.{Places}
-use Rattle.survey.proofs.Ranges.{Ranged, in-range}
+use Rattle.survey.specs.Ranges.{Ranged, in-range}
 use Rattle.survey.proofs.Bases.{placeIn}
 use Rattle.survey.proofs.Over.{rangedAt, goodOver, foundOver, sumsTo}
 use Rattle.survey.proofs.Steps.{least-above, divide-is, clip-is}
 use Rattle.survey.proofs.Agreed.{fit-is, divide-axes, grid-wants, wants-same}
 use Rattle.survey.proofs.Seen.{sheetBy, Seen}
 
-module _ {e : List ℕ} {p : Places} {check : Bool} {st : State} {place : ℕ} {all : Sums} {deep : ℕ} {xs ys : List ℕ}
-    (s : Seen e p check st place all deep xs ys (st .components)) where
+module _ {e : List ℕ} {p : Places} {check : Bool} {st : State} {here : Places} {all : Sums} {deep : ℕ} {xs ys : List ℕ}
+    (s : Seen e p check st here all deep xs ys (st .components)) where
   ranged : (c : ℕ) → c < st .components → Ranged (dxOf st c) (dyOf st c) (resOf st c)
   ranged c h = in-range (dxOf st c) (dyOf st c) (resOf st c) (all-at (rangedAt st) (st .components) (s .ranged) c h)
 

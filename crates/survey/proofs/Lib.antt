@@ -1,4 +1,3 @@
-pub mod Ranges
 pub mod Components
 pub mod Orders
 pub mod Products
@@ -9,6 +8,6 @@ pub mod Agreed
 pub mod Bases
 pub mod Seen
 pub mod Tables
-pub mod Room
+pub mod Cleared
 pub mod Found
 pub mod Determined

@@ -3,20 +3,21 @@
 use mathlib.Core.Path.{_≡_, refl, subst, ap}
 use mathlib.Core.Bool.{Bool, true, cond, _&&_, _||_, not}
 use mathlib.Core.List.{List}
-use Prim.Native.Nat.{ℕ, _+_, _-_, _*_, max}
+use Prim.Native.Nat.{ℕ, _+_, _*_, max}
 use lib.Dec.{leb, eqb}
 use borrow.Author.Tests.{lt-ltb}
 use Rattle.laws.specs.Below.{allBelow, maxBelow, max-none, max-more, minBelow, min-none, min-more}
 use Rattle.laws.specs.Pointwise.{max-same}
 use Rattle.words.specs.Words.{wordAt}
 use Rattle.geometry.specs.Line.{count, boundOf}
+use Rattle.geometry.specs.Axis.{columnsOf}
 use Rattle.geometry.specs.declared.tile.Area.{Area}
-use Rattle.packets.specs.Sheet.{componentRange, exponentRange}
+use Rattle.types.specs.Ranges.{componentRange, exponentRange}
 use Rattle.packets.specs.Tile.{Sheet, dxOf, dyOf, resOf, width, height, precincts}
 use Rattle.packets.specs.Grid.{everywhere, stepX, stepY}
-use Rattle.packets.specs.declared.state.State.{State}
+use Rattle.types.specs.declared.state.State.{State}
 use Rattle.survey.specs.Survey.{placeOf, surveyGood, surveyed, noSurvey, surveyOf}
-use Rattle.survey.specs.Passing.{startSums, noSums, joinedSums, countOf, entryFine, passed, resolutionSums, componentSums}
+use Rattle.survey.specs.Passing.{startSums, noSums, joinedSums, entryFine, passed, resolutionSums, componentSums}
 use Rattle.survey.specs.declared.Source.{Source}
 use Rattle.survey.specs.declared.Findings.{Findings}
 use Rattle.survey.specs.declared.sums.Sums.{Sums}
@@ -93,7 +94,7 @@ sums-more s c =
 pub component-is : (e : List ℕ) (q : ℕ → ℕ → ℕ) (check : Bool) (st : State) (c : ℕ)
     → componentSums e (q c) check (tileOf st) (dxOf st c) (dyOf st c) (resOf st c)
     ≡ cond (rangedAt st c) (cond (fineAt e q st check c) (partSums (sheetOver e q st) c) noSums) noSums
-unfolding componentSums resolutionSums passed entryFine countOf count boundOf
+unfolding componentSums resolutionSums passed entryFine columnsOf count boundOf
 component-is e q check st c =
     ap
     (λ (m : ℕ).

@@ -12,14 +12,14 @@ use Rattle.laws.specs.Cases.{le-or-lt, and-true, and-false, cond-told, cond-and
 use Rattle.laws.specs.Below.{allBelow, all-none, all-more, all-fails, maxBelow, max-none, max-more}
 use Rattle.packets.specs.Tile.{Sheet, dxOf, dyOf, resOf}
 use Rattle.packets.specs.Grid.{stepX, stepY}
-use Rattle.packets.specs.declared.state.State.{State}
+use Rattle.types.specs.declared.state.State.{State}
 use Rattle.survey.specs.Survey.{noSurvey, surveyOf}
-use Rattle.survey.specs.Passing.{startSums, noSums, joinedSums, componentSums, placesOf}
+use Rattle.survey.specs.Passing.{startSums, noSums, joinedSums, componentSums, placesOf, placesAfter, exponentsAt}
 use Rattle.survey.specs.declared.Source.{Source}
 use Rattle.survey.specs.declared.sums.Sums.{Sums}
 use Rattle.survey.specs.declared.places.Places.{Places}
-use Rattle.survey.proofs.Ranges.{in-range}
-use Rattle.survey.proofs.Bases.{baseIn, placeIn, Small, base-none, base-more, apart-small, places-are}
+use Rattle.survey.specs.Ranges.{in-range}
+use Rattle.survey.proofs.Bases.{placeIn, placesAt, Small, places-none, places-more, apart-small, places-are}
 use Rattle.survey.proofs.Over.{sheetOver, rangedAt, fineAt, goodOver, foundOver, survey-over, tileOf, leastIn, partSums, sumsTo, sums-none, sums-more, component-is}
 
 -- the sheet whose exponents stand at these places
@@ -40,10 +40,10 @@ holds-more f c l v long h e k b =
     differs : (k c : ℕ) → k < c → k ≡ c → ⊥
     differs k c d z = omega arith
 
--- after c components the next begins at `place`, and everything before was good
-pub record Seen (e : List ℕ) (p : Places) (check : Bool) (st : State) (place : ℕ) (all : Sums) (deep : ℕ) (xs ys : List ℕ) (c : ℕ) : Type 0 where
-  pub at : place ≡ baseIn p st c
-  pub near : place ≤ 68 + 1088 * c
+-- after c components the next stands at the places `here`, and everything before was good
+pub record Seen (e : List ℕ) (p : Places) (check : Bool) (st : State) (here : Places) (all : Sums) (deep : ℕ) (xs ys : List ℕ) (c : ℕ) : Type 0 where
+  pub at : here ≡ placesAt p st c
+  pub near : here .first ≤ 68 + 1088 * c
   pub ranged : allBelow (rangedAt st) c ≡ true
   pub fine : allBelow (fineAt e (placeIn p st) st check) c ≡ true
   pub sums : all ≡ sumsTo (sheetBy e p st) c
@@ -54,11 +54,11 @@ pub record Seen (e : List ℕ) (p : Places) (check : Bool) (st : State) (place :
   pub least-x : Holds (leastIn (stepX (sheetBy e p st)) st) c xs
   pub least-y : Holds (leastIn (stepY (sheetBy e p st)) st) c ys
 
-pub seen-none : (e : List ℕ) (p : Places) (check : Bool) (st : State) → Small p → Seen e p check st (p .first) startSums 0 (replicate 16 0) (replicate 16 0) 0
+pub seen-none : (e : List ℕ) (p : Places) (check : Bool) (st : State) → Small p → Seen e p check st p startSums 0 (replicate 16 0) (replicate 16 0) 0
 seen-none e p check st small =
     let f = small .first in
     record {
-      at = base-none p st;
+      at = places-none p st;
       near = omega arith;
       ranged = all-none (rangedAt st);
       fine = all-none (fineAt e (placeIn p st) st check);
@@ -71,9 +71,13 @@ seen-none e p check st small =
       least-y = λ k h. omega arith;
     }
 
-module _ {e : List ℕ} {p : Places} {check : Bool} {st : State} {place : ℕ} {all : Sums} {deep : ℕ} {xs ys : List ℕ} {c : ℕ}
-    (s : Seen e p check st place all deep xs ys c) {one : Sums}
-    (is : one ≡ componentSums e (λ i. place + p .apart * i) check (tileOf st) (dxOf st c) (dyOf st c) (resOf st c)) where
+pub apart-near : {e : List ℕ} {p : Places} {check : Bool} {st : State} {here : Places} {all : Sums} {deep : ℕ} {xs ys : List ℕ} {c : ℕ}
+    → Seen e p check st here all deep xs ys c → Small p → here .apart ≤ 32
+apart-near s small = rw (s .at) (small .apart)
+
+module _ {e : List ℕ} {p : Places} {check : Bool} {st : State} {here : Places} {all : Sums} {deep : ℕ} {xs ys : List ℕ} {c : ℕ}
+    (s : Seen e p check st here all deep xs ys c) {one : Sums}
+    (is : one ≡ componentSums e (exponentsAt here) check (tileOf st) (dxOf st c) (dyOf st c) (resOf st c)) where
   -- the component's sums, by what it is
   part : one ≡ cond (rangedAt st c && fineAt e (placeIn p st) st check c) (partSums (sheetBy e p st) c) noSums
   part = rw (s .at) at is ∙ component-is e (placeIn p st) check st c ∙ cond-and (rangedAt st c) (fineAt e (placeIn p st) st check c) _ _
@@ -88,20 +92,20 @@ module _ {e : List ℕ} {p : Places} {check : Bool} {st : State} {place : ℕ} {
   levels-few g = in-range (dxOf st c) (dyOf st c) (resOf st c) (both g .0) .n-high
 
   pub seen-more : Small p → c < 16 → one .good ≡ true
-      → Seen e p check st (place + (p .apart * resOf st c + p .between)) (joinedSums all one) (max deep (resOf st c)) (set xs c (one .«x_least»)) (set ys c (one .«y_least»)) (c + 1)
+      → Seen e p check st (placesAfter here (resOf st c)) (joinedSums all one) (max deep (resOf st c)) (set xs c (one .«x_least»)) (set ys c (one .«y_least»)) (c + 1)
   seen-more small h g =
       let w = both g in
       let r = in-range (dxOf st c) (dyOf st c) (resOf st c) (w .0) in
       let is-part : one ≡ partSums (sheetBy e p st) c = rw (w .0, w .1) at part in
-      let a = apart-small p (resOf st c) small (r .n-high) in
-      let b = small .between in
+      let a : here .apart * resOf st c ≤ 32 * 33 = rw (s .at) (apart-small p (resOf st c) small (r .n-high)) in
+      let b : here .between ≤ 32 = rw (s .at) (small .between) in
       let near = s .near in
       let high = r .n-high in
       let shallow = s .shallow in
       let x = s .long-x in
       let y = s .long-y in
       record {
-        at = rw (s .at) (base-more p st c);
+        at = rw (s .at) (places-more p st c);
         near = omega arith;
         ranged = all-more (rangedAt st) c (s .ranged) (w .0);
         fine = all-more (fineAt e (placeIn p st) st check) c (s .fine) (w .1);
@@ -114,9 +118,9 @@ module _ {e : List ℕ} {p : Places} {check : Bool} {st : State} {place : ℕ} {
         least-y = holds-more (leastIn (stepY (sheetBy e p st)) st) c ys (one .«y_least») (omega arith) (s .least-y) (ap (λ (a : Sums). a .«y_least») is-part);
       }
 
-  -- the next place is small
-  pub room : Small p → c < 16 → one .good ≡ true → place + (p .apart * resOf st c + p .between) ≤ 17476
-  room small h g = omega (arith, seen-more small h g .near)
+  -- the next place is near
+  pub next-near : Small p → c < 16 → one .good ≡ true → placesAfter here (resOf st c) .first ≤ 17476
+  next-near small h g = omega (arith, seen-more small h g .near)
 
   -- a component that is not good ends the survey
   pub seen-bad : c < st .components → one .good ≡ false → foundOver e (placeIn p st) check st ≡ noSurvey

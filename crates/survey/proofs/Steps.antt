@@ -17,7 +17,7 @@ use Rattle.laws.specs.Pointwise.{all-true, all-same, min-same}
 use Rattle.laws.specs.Extremes.{same-tests, min-restart, shifted-multiple}
 use Rattle.packets.specs.Tile.{resOf, fitting}
 use Rattle.packets.specs.Grid.{everywhere, smallestOf, smallest}
-use Rattle.packets.specs.declared.state.State.{State}
+use Rattle.types.specs.declared.state.State.{State}
 use Rattle.survey.specs.Passing.{multiples}
 use Rattle.survey.proofs.Over.{leastIn}
 

@@ -9,26 +9,29 @@ use Rattle.laws.specs.Below.{sum-none, sum-more}
 use Rattle.laws.specs.Spans.{span-end}
 use Rattle.laws.specs.Indexing.{gather-last}
 use Rattle.geometry.specs.Line.{boundOf, count}
+use Rattle.geometry.specs.Axis.{columnsOf}
 use Rattle.packets.specs.Tile.{Sheet, dxOf, dyOf, resOf, entriesBefore}
 use Rattle.packets.specs.Table.{wordsIn, wordsBelow, tableWords}
 use Rattle.packets.specs.Readback.{words-length}
-use Rattle.packets.specs.declared.state.State.{State}
+use Rattle.types.specs.declared.state.State.{State}
 use Rattle.survey.specs.Survey.{sheetFrom}
-use Rattle.survey.specs.Passing.{countOf, placesOf}
-use Rattle.survey.specs.Kept.{putNumbers, resolutionWords, componentWords}
+use Rattle.survey.specs.Passing.{placesOf, exponentsAt}
+use Rattle.survey.specs.Put.{putNumbers, put-length, put-more}
+use Rattle.survey.specs.Kept.{resolutionWords, componentWords}
 use Rattle.survey.specs.declared.Source.{Source}
 use Rattle.survey.specs.declared.places.Places.{Places}
-use Rattle.survey.proofs.Bases.{baseIn, places-are}
+use Rattle.survey.proofs.Bases.{placesAt, places-are}
 use Rattle.survey.proofs.Over.{sheetOver, tileOf}
 use Rattle.survey.proofs.Seen.{sheetBy}
-use Rattle.survey.proofs.Keeping.{put-more, put-length}
 
 -- after c components the next words go to place `to`
 pub record KeptTo (e : List ℕ) (p : Places) (st : State) (old : List ℕ) (to : ℕ) (kept : List ℕ) (c : ℕ) : Type 0 where
   pub at : to ≡ 4 * entriesBefore st c
   pub near : to ≤ 132 * c
-  pub long : length kept ≡ length old
   pub laid : kept ≡ putNumbers old 0 (wordsBelow (sheetBy e p st) c)
+
+pub kept-long : {e : List ℕ} {p : Places} {st : State} {old : List ℕ} {to : ℕ} {kept : List ℕ} {c : ℕ} → KeptTo e p st old to kept c → length kept ≡ length old
+kept-long {old = old} k = ap length (k .laid) ∙ put-length _ old 0
 
 module _ (e : List ℕ) (p : Places) (st : State) (old : List ℕ) where
   abbrev s : Sheet
@@ -40,28 +43,26 @@ module _ (e : List ℕ) (p : Places) (st : State) (old : List ℕ) where
       record {
         at = rw (sum-none (resOf st)) refl;
         near = omega arith;
-        long = refl;
         laid = rw (span-end 0 0 (omega arith)) refl;
       }
 
   -- what the pass over a component keeps is its part of the table
-  part-is : (c place : ℕ) → place ≡ baseIn p st c
-      → componentWords e (λ i. place + p .apart * i) (tileOf st) (dxOf st c) (dyOf st c) (resOf st c) ≡ wordsIn s c
-  unfolding resolutionWords countOf count boundOf
-  part-is c place h = rw h refl
+  part-is : (c : ℕ) (here : Places) → here ≡ placesAt p st c
+      → componentWords e (exponentsAt here) (tileOf st) (dxOf st c) (dyOf st c) (resOf st c) ≡ wordsIn s c
+  unfolding resolutionWords columnsOf count boundOf
+  part-is c here h = rw h refl
 
-  pub kept-more : {to c place : ℕ} {kept new : List ℕ} → KeptTo e p st old to kept c → place ≡ baseIn p st c → resOf st c ≤ 33
-      → new ≡ putNumbers kept to (componentWords e (λ i. place + p .apart * i) (tileOf st) (dxOf st c) (dyOf st c) (resOf st c))
+  pub kept-more : {to c : ℕ} {here : Places} {kept new : List ℕ} → KeptTo e p st old to kept c → here ≡ placesAt p st c → resOf st c ≤ 33
+      → new ≡ putNumbers kept to (componentWords e (exponentsAt here) (tileOf st) (dxOf st c) (dyOf st c) (resOf st c))
       → KeptTo e p st old (to + 4 * resOf st c) new (c + 1)
   unfolding entriesBefore
-  kept-more {to} {c} {place} {kept} {new} k h few f =
+  kept-more {to} {c} {here} {kept} {new} k h few f =
       let more = sum-more (resOf st) c in
       let at : to ≡ 0 + length (wordsBelow s c) = omega (arith, k .at, words-length s c) in
-      let is = part-is c place h in
+      let is = part-is c here h in
       record {
         at = omega (arith, k .at);
         near = omega (arith, k .near);
-        long = ap length f ∙ put-length _ kept to ∙ k .long;
         laid = f ∙ rw (is, k .laid, at, gather-last (wordsIn s) c) (put-more (wordsBelow s c) (wordsIn s c) old 0);
       }
 

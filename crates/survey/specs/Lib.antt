@@ -1,4 +1,6 @@
+pub mod Put
 pub mod Survey
 pub mod Passing
 pub mod Kept
+pub mod Ranges
 pub mod Sources

@@ -1,44 +1,59 @@
 -- What the functions of the survey hold while they pass over components and resolutions, over plain numbers.
--- Passed.antt says what these are of a sheet.
+-- proofs/Over.antt says what these are of a sheet.
 use Prim.Native.Nat.{ℕ, _+_, _-_, _*_, _%_, _^_, min, max}
 use mathlib.Core.Bool.{Bool, true, false, cond, _&&_, _||_, not}
 use mathlib.Core.List.{List}
 use lib.ListN.{getD}
 use lib.Dec.{leb, eqb}
 use Rattle.laws.specs.Below.{allBelow, maxBelow, minBelow}
-use Rattle.laws.specs.Ceiling.{ceilDiv}
 use Rattle.words.specs.Words.{wordAt}
-use Rattle.geometry.specs.Precinct.{across}
+use Rattle.geometry.specs.Axis.{axisOf, resolutionOf, columnsOf}
+use Rattle.geometry.specs.declared.axis.Axis.{Axis}
 use Rattle.geometry.specs.declared.tile.Area.{Area}
-use Rattle.packets.specs.Sheet.{exponentRange, componentRange}
-use Rattle.packets.specs.Orders.{Order, lrcp, rlcp, rpcl, pcrl, cprl, other, orderOf}
+use Rattle.types.specs.Ranges.{exponentRange, componentRange}
+use Rattle.types.specs.Orders.{orderOf}
+use Rattle.types.specs.declared.order.Order.{Order}
+use Rattle.types.specs.declared.order.Order.the-variants.{Lrcp as lrcp, Rlcp as rlcp, Rpcl as rpcl, Pcrl as pcrl, Cprl as cprl, NoPositions as other}
 use Rattle.packets.specs.Grid.{changeOf}
-use Rattle.packets.specs.declared.state.State.{State}
+use Rattle.types.specs.declared.state.State.{State}
+use Rattle.types.specs.declared.table.Entry.{Entry}
 use Rattle.survey.specs.declared.Source.{Source}
 use Rattle.survey.specs.declared.Source.the-variants.{Records, Entries}
 use Rattle.survey.specs.declared.Findings.{Findings}
-use Rattle.survey.specs.declared.axis.Axis.{Axis}
+use Rattle.survey.specs.declared.axes.Axes.{Axes}
 use Rattle.survey.specs.declared.sums.Sums.{Sums}
 use Rattle.survey.specs.declared.marks.Marks.{Marks}
 use Rattle.survey.specs.declared.places.Places.{Places}
 
--- AN AXIS: a component's, from the tile's bounds and its own step
-abbrev pub axisOf : ℕ → ℕ → ℕ → Axis
-axisOf t0 t1 d = record { c0 = ceilDiv t0 d; c1 = ceilDiv t1 d; d = d }
+-- A COMPONENT on its two axes, and a RESOLUTION of it at some level, with its precinct exponents: its precincts and its step on one axis, and its entry
+abbrev pub axesOf : Area → ℕ → ℕ → Axes
+axesOf tile dx dy = record { x = axisOf (tile .x0) (tile .x1) dx; y = axisOf (tile .y0) (tile .y1) dy }
 
--- precincts and step of a resolution
-unfoldable pub countOf : Axis → ℕ → ℕ → ℕ
-countOf a level pd = across (ceilDiv (a .c0) (2 ^ level)) (ceilDiv (a .c1) (2 ^ level)) pd
+abbrev pub countOf : Axis → ℕ → ℕ → ℕ
+countOf a level pd = columnsOf (resolutionOf a level) pd .count
 
 abbrev pub strideOf : Axis → ℕ → ℕ → ℕ
 strideOf a level pd = a .d * 2 ^ (pd + level)
 
--- SUMS: of nothing yet, of something out of range, and of two groups
+abbrev pub entryOf : Axes → ℕ → ℕ → ℕ → Entry
+entryOf a level pdx pdy = record { pdx = pdx; pdy = pdy; width = countOf (a .x) level pdx; height = countOf (a .y) level pdy }
+
+-- SUMS: of nothing yet, of something out of range, with a resolution, and of two groups
 abbrev pub startSums : Sums
 startSums = record { good = true; most = 0; largest = 0; «x_least» = 4294967295; «y_least» = 4294967295 }
 
 abbrev pub noSums : Sums
 noSums = record { good = false; most = 0; largest = 0; «x_least» = 0; «y_least» = 0 }
+
+abbrev pub withEntry : Sums → Axes → ℕ → Entry → Sums
+withEntry s a level entry =
+    record {
+      good = true;
+      most = max (s .most) (entry .width * entry .height);
+      largest = max (s .largest) (max (strideOf (a .x) level (entry .pdx)) (strideOf (a .y) level (entry .pdy)));
+      «x_least» = min (s .«x_least») (strideOf (a .x) level (entry .pdx));
+      «y_least» = min (s .«y_least») (strideOf (a .y) level (entry .pdy));
+    }
 
 abbrev pub joinedSums : Sums → Sums → Sums
 joinedSums a b =
@@ -50,58 +65,59 @@ joinedSums a b =
       «y_least» = min (a .«y_least») (b .«y_least»);
     }
 
--- A RESOLUTION at some level, whose exponents stand at place p: whether its sizes and its exponents are good
+-- A RESOLUTION whose exponents stand at place p: its entry, whether its sizes and its exponents are good, and the sums with it
+abbrev pub entryFrom : List ℕ → ℕ → Axes → ℕ → Entry
+entryFrom e p a level = entryOf a level (wordAt e p) (wordAt e (p + 4))
+
 abbrev pub sizesAt : List ℕ → ℕ → Bool → ℕ → ℕ → Bool
 sizesAt e p check w h = not check || (eqb (wordAt e (p + 8)) w && eqb (wordAt e (p + 12)) h)
 
-unfoldable pub entryFine : List ℕ → ℕ → Bool → Axis → Axis → ℕ → Bool
-entryFine e p check x y level =
-    exponentRange (wordAt e p) (wordAt e (p + 4)) && sizesAt e p check (countOf x level (wordAt e p)) (countOf y level (wordAt e (p + 4)))
+unfoldable pub entryFine : List ℕ → ℕ → Bool → Axes → ℕ → Bool
+entryFine e p check a level =
+    exponentRange (wordAt e p) (wordAt e (p + 4)) && sizesAt e p check (entryFrom e p a level .width) (entryFrom e p a level .height)
 
--- and its precincts and steps
-abbrev pub precinctsAt : List ℕ → ℕ → Axis → Axis → ℕ → ℕ
-precinctsAt e p x y level = countOf x level (wordAt e p) * countOf y level (wordAt e (p + 4))
+unfoldable pub entrySums : List ℕ → ℕ → Bool → Axes → ℕ → Sums → Sums
+entrySums e p check a level s = cond (entryFine e p check a level) (withEntry s a level (entryFrom e p a level)) noSums
 
-abbrev pub strideX : List ℕ → ℕ → Axis → ℕ → ℕ
-strideX e p x level = strideOf x level (wordAt e p)
+-- its precincts and steps
+abbrev pub precinctsAt : List ℕ → ℕ → Axes → ℕ → ℕ
+precinctsAt e p a level = entryFrom e p a level .width * entryFrom e p a level .height
 
-abbrev pub strideY : List ℕ → ℕ → Axis → ℕ → ℕ
-strideY e p y level = strideOf y level (wordAt e (p + 4))
+abbrev pub strideX : List ℕ → ℕ → Axes → ℕ → ℕ
+strideX e p a level = strideOf (a .x) level (wordAt e p)
 
-unfoldable pub entrySums : List ℕ → ℕ → Bool → Axis → Axis → ℕ → Sums → Sums
-entrySums e p check x y level a =
-    cond (entryFine e p check x y level)
-    (record {
-      good = true;
-      most = max (a .most) (precinctsAt e p x y level);
-      largest = max (a .largest) (max (strideX e p x level) (strideY e p y level));
-      «x_least» = min (a .«x_least») (strideX e p x level);
-      «y_least» = min (a .«y_least») (strideY e p y level);
-    })
-    noSums
+abbrev pub strideY : List ℕ → ℕ → Axes → ℕ → ℕ
+strideY e p a level = strideOf (a .y) level (wordAt e (p + 4))
 
 -- A COMPONENT with n resolutions, whose exponents stand at q 0, q 1, ..: the sums of the first k, of all, and with the ranges of its own fields
-unfoldable pub passed : List ℕ → (ℕ → ℕ) → Axis → Axis → ℕ → ℕ → Sums
-passed e q x y n k =
+unfoldable pub passed : List ℕ → (ℕ → ℕ) → Axes → ℕ → ℕ → Sums
+passed e q a n k =
     record {
       good = true;
-      most = maxBelow (λ r. precinctsAt e (q r) x y (n - 1 - r)) k;
-      largest = maxBelow (λ r. max (strideX e (q r) x (n - 1 - r)) (strideY e (q r) y (n - 1 - r))) k;
-      «x_least» = minBelow 4294967295 (λ r. strideX e (q r) x (n - 1 - r)) k;
-      «y_least» = minBelow 4294967295 (λ r. strideY e (q r) y (n - 1 - r)) k;
+      most = maxBelow (λ r. precinctsAt e (q r) a (n - 1 - r)) k;
+      largest = maxBelow (λ r. max (strideX e (q r) a (n - 1 - r)) (strideY e (q r) a (n - 1 - r))) k;
+      «x_least» = minBelow 4294967295 (λ r. strideX e (q r) a (n - 1 - r)) k;
+      «y_least» = minBelow 4294967295 (λ r. strideY e (q r) a (n - 1 - r)) k;
     }
 
-unfoldable pub resolutionSums : List ℕ → (ℕ → ℕ) → Bool → Axis → Axis → ℕ → Sums
-resolutionSums e q check x y n = cond (allBelow (λ r. entryFine e (q r) check x y (n - 1 - r)) n) (passed e q x y n n) noSums
+unfoldable pub resolutionSums : List ℕ → (ℕ → ℕ) → Bool → Axes → ℕ → Sums
+resolutionSums e q check a n = cond (allBelow (λ r. entryFine e (q r) check a (n - 1 - r)) n) (passed e q a n n) noSums
 
 unfoldable pub componentSums : List ℕ → (ℕ → ℕ) → Bool → Area → ℕ → ℕ → ℕ → Sums
-componentSums e q check tile dx dy n =
-    cond (componentRange dx dy n) (resolutionSums e q check (axisOf (tile .x0) (tile .x1) dx) (axisOf (tile .y0) (tile .y1) dy) n) noSums
+componentSums e q check tile dx dy n = cond (componentRange dx dy n) (resolutionSums e q check (axesOf tile dx dy) n) noSums
 
--- PLACES: of the first exponents, from a resolution to the next, and what stands between two components
+-- PLACES: of the first exponents of a component, from a resolution to the next, and what stands between two components; of component 0, and of the
+-- component after one with n resolutions
 abbrev pub placesOf : Source → Places
 placesOf Records = record { first = 68; apart = 32; between = 32 }
 placesOf Entries = record { first = 0; apart = 16; between = 0 }
+
+-- where the exponents of resolution r stand
+abbrev pub exponentsAt : Places → ℕ → ℕ
+exponentsAt p r = p .first + p .apart * r
+
+abbrev pub placesAfter : Places → ℕ → Places
+placesAfter p n = record { first = p .first + (p .apart * n + p .between); apart = p .apart; between = p .between }
 
 -- THE GRID: 1 for an order that wants steps that fit 32 bits, 2 for one that wants a smallest that divides too
 abbrev pub wantOf : Order → ℕ

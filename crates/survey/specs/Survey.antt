@@ -5,17 +5,18 @@ use mathlib.Core.List.{List}
 use lib.ListN.{length, replicate}
 use lib.Dec.{leb, eqb}
 use Rattle.laws.specs.Below.{allBelow}
-use Rattle.words.specs.Words.{wordAt, over}
-use Rattle.packets.specs.Sheet.{componentRange, exponentRange}
+use Rattle.words.specs.Words.{wordAt}
+use Rattle.types.specs.Ranges.{componentRange, exponentRange}
 use Rattle.packets.specs.Tile.{Sheet, dxOf, dyOf, resOf, width, height, maxPrec, maxRes, dxMin, dyMin, reported, needed, entriesBefore}
 use Rattle.packets.specs.Table.{tableWords}
 use Rattle.packets.specs.Grid.{everywhere, gridAgreed}
-use Rattle.packets.specs.declared.state.State.{State}
+use Rattle.types.specs.declared.state.State.{State}
 use Rattle.survey.specs.declared.Source.{Source}
 use Rattle.survey.specs.declared.Source.the-variants.{Records, Entries}
 use Rattle.survey.specs.declared.Findings.{Findings}
+use Rattle.survey.specs.Put.{putNumbers}
 
--- where the exponents of resolution r of component c stand: behind the kind in its record of a sheet, or in its entry of a table
+-- where the exponents of resolution r of component c stand: after the kind in its record of a sheet, or in its entry of a table
 abbrev pub placeOf : Source → State → ℕ → ℕ → ℕ
 placeOf Records st c r = 32 * (1 + c + entriesBefore st c + 1 + r) + 4
 placeOf Entries st c r = 16 * (entriesBefore st c + r)
@@ -24,7 +25,7 @@ placeOf Entries st c r = 16 * (entriesBefore st c + r)
 abbrev pub sheetFrom : List ℕ → Source → State → Sheet
 sheetFrom e at st = record { st = st; pdx = λ c r. wordAt e (placeOf at st c r); pdy = λ c r. wordAt e (placeOf at st c r + 4) }
 
--- the width and height behind the exponents are those that follow from them (in a table; a sheet has none)
+-- the width and height after the exponents are those that follow from them (in a table; a sheet has none)
 abbrev pub sizesGood : List ℕ → Source → State → ℕ → ℕ → Bool
 sizesGood e at st c r =
     eqb (wordAt e (placeOf at st c r + 8)) (width (sheetFrom e at st) c r) && eqb (wordAt e (placeOf at st c r + 12)) (height (sheetFrom e at st) c r)
@@ -60,14 +61,6 @@ surveyed s =
 unfoldable pub surveyOf : List ℕ → Source → Bool → State → Findings
 surveyOf e at check st = cond (surveyGood e at check st) (surveyed (sheetFrom e at st)) noSurvey
 
--- there is room to keep the words of the largest table
-abbrev roomy : List ℕ → Bool
-roomy old = leb 2112 (length old)
-
--- with room the survey, and without nothing
-unfoldable pub foundOf : List ℕ → Source → Bool → State → List ℕ → Findings
-foundOf e at check st old = cond (roomy old) (surveyOf e at check st) noSurvey
-
--- what is kept: the words of the table, laid over the start; where nothing is found, zeros
+-- what is kept: the words of the table from the start on, as far as there is room; where a range does not hold, zeros
 unfoldable pub keptOf : List ℕ → Source → Bool → State → List ℕ → List ℕ
-keptOf e at check st old = cond (roomy old && surveyGood e at check st) (over (tableWords (sheetFrom e at st)) old) (replicate (length old) 0)
+keptOf e at check st old = cond (surveyGood e at check st) (putNumbers old 0 (tableWords (sheetFrom e at st))) (replicate (length old) 0)

@@ -1,21 +1,22 @@
 // Whether the grid is agreed (01, 'Agreed grid'): what the orders of the progressions want of the steps, and whether the steps have it.
 use geometry::math;
-use packets::state::Order;
-use packets::state::State;
+use types::order::Order;
+use types::state::State;
 ghost use mathlib.Core.Path.{_≡_};
 ghost use Prim.Native.Nat.{_≤_, _<_};
-ghost use Rattle.packets.specs.Orders.{orderOf};
 ghost use Rattle.survey.specs.Passing.{wantOf, wantedOf, multiples, agreedOf};
 
 // What an order wants: 1 that every step fits 32 bits, 2 that the smallest also divides every other.
-fn want(prg: i32) -> u32
-    ensures { λ r. ⌜ r ≡ wantOf (orderOf prg) ⌝ }
+fn want(order: Order) -> u32
+    ensures { λ r. ⌜ r ≡ wantOf order ⌝ }
 {
-    match prg {
-        Order::RPCL => 2,
-        Order::PCRL => 2,
-        Order::CPRL => 1,
-        _ => 0,
+    match order {
+        Order::Lrcp => 0,
+        Order::Rlcp => 0,
+        Order::Rpcl => 2,
+        Order::Pcrl => 2,
+        Order::Cprl => 1,
+        Order::NoPositions => 0,
     }
 }
 
@@ -28,14 +29,14 @@ pub(crate) fn wanted(st: State) -> u32
     let mut k: usize = 0;
     while k < n {
         let p = st.changes[k];
-        most = math::uint_max(most, want(p.prg));
+        most = math::uint_max(most, want(Order::of(p.prg)));
         k += 1;
     }
     most
 }
 
 // The first n numbers are multiples of m.
-fn all_multiples(numbers: &[u32; 16], n: usize, m: u32) -> bool
+fn all_multiples(numbers: &[u32; State::COMPONENT_PLACES], n: usize, m: u32) -> bool
     requires { ⌜ (n ≤ 16) × (0 < m) ⌝ }
     ensures { λ r. ⌜ r ≡ multiples (now (numbers .entry)) n m ⌝ }
 {
@@ -55,9 +56,9 @@ fn all_multiples(numbers: &[u32; 16], n: usize, m: u32) -> bool
 pub(crate) fn agreed(
     wanted: u32,
     largest: u64,
-    xs: &[u32; 16],
+    xs: &[u32; State::COMPONENT_PLACES],
     x: u32,
-    ys: &[u32; 16],
+    ys: &[u32; State::COMPONENT_PLACES],
     y: u32,
     n: usize,
 ) -> bool

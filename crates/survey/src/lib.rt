@@ -1,6 +1,6 @@
 // One survey of every resolution of every component, for setup and for soundness alike: the numbers that setup reports, whether the grid is agreed, the
 // marks needed, and the words of the table. The precinct exponents are read where they stand: in a sheet's records or in a table's entries.
-mod axis;
+mod axes;
 mod component;
 mod grid;
 mod kept;
@@ -8,17 +8,17 @@ mod marks;
 mod places;
 mod sums;
 
+use crate::component::Comp;
 use crate::marks::Marks;
 use crate::places::Places;
 use crate::sums::Sums;
 use geometry::math;
 use geometry::tile::Area;
-use packets::state::State;
+use types::state::State;
 ghost use mathlib.Core.Path.{_≡_};
 ghost use Prim.Native.Nat.{_≤_, _<_};
-ghost use lib.ListN.{length};
 ghost use Rattle.packets.specs.Table.{tableWords};
-ghost use Rattle.survey.specs.Survey.{sheetFrom, noSurvey, surveyOf, foundOf, keptOf};
+ghost use Rattle.survey.specs.Survey.{sheetFrom, noSurvey, surveyOf, keptOf};
 ghost use Rattle.survey.specs.Kept.{Keeps};
 ghost use Rattle.survey.specs.Passing.{findingsOf};
 
@@ -66,8 +66,8 @@ impl Findings {
         components: u32,
         res: u32,
         all: Sums,
-        xs: &[u32; 16],
-        ys: &[u32; 16],
+        xs: &[u32; State::COMPONENT_PLACES],
+        ys: &[u32; State::COMPONENT_PLACES],
     ) -> Self
         requires { ⌜ (components ≤ 16) × (res ≤ 33) × (0 < all .«x_least») × (0 < all .«y_least») ⌝ }
         ensures { λ r. ⌜ r ≡ findingsOf wanted layers components res all (now (xs .entry)) (now (ys .entry)) ⌝ }
@@ -96,7 +96,6 @@ impl Findings {
 
 // The survey of a state, whose table's words are kept; where a range does not hold, some may be.
 fn passed(e: &[u8], at: Source, check: bool, st: State, kept: &mut [u32]) -> Findings
-    requires { ⌜ 2112 ≤ length (now kept) ⌝ }
     ensures found { λ r. ⌜ r ≡ surveyOf (now (e .entry)) at check st ⌝ }
     ensures keeps { λ r. ⌜ Keeps (now (kept .entry)) (now (kept .exit)) 0 (r .good) (tableWords (sheetFrom (now (e .entry)) at st)) ⌝ }
 {
@@ -110,38 +109,28 @@ fn passed(e: &[u8], at: Source, check: bool, st: State, kept: &mut [u32]) -> Fin
         x1: st.tx1,
         y1: st.ty1,
     };
-    let places = Places::of(at);
-    let mut place = places.first;
+    let mut places = Places::of(at);
     let mut to: usize = 0;
     let mut all = Sums::start();
     let mut max_res: u32 = 0;
     // the smallest steps of each component
-    let mut xs = [0u32; 16];
-    let mut ys = [0u32; 16];
+    let mut xs = [0u32; State::COMPONENT_PLACES];
+    let mut ys = [0u32; State::COMPONENT_PLACES];
     let mut c: usize = 0;
     while c < n {
-        let dx = st.dx[c];
-        let dy = st.dy[c];
-        let resolutions = st.resolutions[c];
-        let one = component::component(
-            e,
-            place,
-            places.apart,
-            check,
-            tile,
-            dx,
-            dy,
-            resolutions,
-            kept,
-            to,
-        );
+        let comp = Comp {
+            dx: st.dx[c],
+            dy: st.dy[c],
+            resolutions: st.resolutions[c],
+        };
+        let one = component::component(e, places, check, tile, comp, kept, to);
         if one.good {
             all = all.joined(one);
-            max_res = math::uint_max(max_res, resolutions);
+            max_res = math::uint_max(max_res, comp.resolutions);
             xs[c] = one.x_least;
             ys[c] = one.y_least;
-            place += places.apart * (resolutions as usize) + places.between;
-            to += 4 * (resolutions as usize);
+            places = places.after(comp.resolutions);
+            to += 4 * (comp.resolutions as usize);
             c += 1;
         } else {
             return Findings::none();
@@ -151,16 +140,12 @@ fn passed(e: &[u8], at: Source, check: bool, st: State, kept: &mut [u32]) -> Fin
     Findings::of(wanted, st.layers, st.components, max_res, all, &xs, &ys)
 }
 
-// Surveys the components of st with the exponents that stand in e; with check, also that the sizes behind them are right. The words of the table that they
-// give are laid over the start of kept, which needs room for the largest table. Where it has less, or a range does not hold, nothing is found, and kept is cleared.
+// Surveys the components of st with the exponents that stand in e; with check, also that the sizes after them are right. The words of the table that they
+// give are written from the start of kept on, as far as there is room; where a range does not hold, nothing is found, and kept is cleared.
 pub fn survey(e: &[u8], at: Source, check: bool, st: State, kept: &mut [u32]) -> Findings
-    ensures found { λ r. ⌜ r ≡ foundOf (now (e .entry)) at check st (now (kept .entry)) ⌝ }
+    ensures found { λ r. ⌜ r ≡ surveyOf (now (e .entry)) at check st ⌝ }
     ensures keeps { λ _. ⌜ now (kept .exit) ≡ keptOf (now (e .entry)) at check st (now (kept .entry)) ⌝ }
 {
-    if kept.len() < State::MAX_TABLE_WORDS {
-        kept::clear(kept);
-        return Findings::none();
-    }
     let found = passed(e, at, check, st, kept);
     if !found.good {
         kept::clear(kept);

@@ -1,6 +1,6 @@
 // The marks needed (01, 'Strides'), as an exact number.
 use crate::sums;
-use packets::state::State;
+use types::state::State;
 ghost use mathlib.Core.Path.{_≡_};
 ghost use Prim.Native.Nat.{_≤_};
 ghost use Rattle.survey.specs.Passing.{marksOf};

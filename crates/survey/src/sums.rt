@@ -1,8 +1,11 @@
 // What is gathered over resolutions: the largest precinct count, the largest step, and the smallest step on each axis.
+use crate::axes::Axes;
+use geometry::axis;
 use geometry::math;
+use types::table::Entry;
 ghost use mathlib.Core.Path.{_≡_};
-ghost use Prim.Native.Nat.{min, max};
-ghost use Rattle.survey.specs.Passing.{noSums, startSums, joinedSums};
+ghost use Prim.Native.Nat.{_≤_, _<_, min, max};
+ghost use Rattle.survey.specs.Passing.{noSums, startSums, withEntry, joinedSums};
 
 pub(crate) struct Sums {
     // everything passed was good; else all numbers are 0
@@ -51,6 +54,22 @@ impl Sums {
             largest: 0,
             x_least: 0,
             y_least: 0,
+        }
+    }
+
+    // With a resolution of this level.
+    pub(crate) fn with(self, axes: Axes, level: u32, entry: Entry) -> Self
+        requires { ⌜ (level ≤ 32) × (axes .x .d < 256) × (axes .y .d < 256) × (entry .pdx ≤ 15) × (entry .pdy ≤ 15) ⌝ }
+        ensures { λ r. ⌜ r ≡ withEntry self axes level entry ⌝ }
+    {
+        let step_x = axis::step(axes.x.d, level, entry.pdx);
+        let step_y = axis::step(axes.y.d, level, entry.pdy);
+        Sums {
+            good: true,
+            most: larger(self.most, (entry.width as u64) * (entry.height as u64)),
+            largest: larger(self.largest, larger(step_x, step_y)),
+            x_least: smaller(self.x_least, step_x),
+            y_least: smaller(self.y_least, step_y),
         }
     }
 

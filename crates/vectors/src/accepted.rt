@@ -4,14 +4,14 @@ use crate::bytes;
 use crate::bytes::length;
 use crate::bytes::signed;
 use crate::bytes::word;
-use crate::calls;
 use crate::lent;
 use crate::lent::FILL;
 use crate::lent::MARKS;
 use crate::lent::TABLE;
+use crate::setups;
 use crate::walked;
 use crate::whole;
-use packets::state::State;
+use types::state::State;
 
 fn sheet_of(rest: &[u8]) -> &[u8] {
     bytes::part(rest, 32, length(rest, 0))
@@ -27,10 +27,10 @@ fn packets_of(rest: &[u8]) -> &[u8] {
 }
 
 fn reports(st: State, rest: &[u8]) -> bool {
-    (st.max_prec == word(rest, 4))
-        & (st.max_res == word(rest, 5))
-        & (st.dx_min == word(rest, 6))
-        & (st.dy_min == word(rest, 7))
+    (st.reports.max_prec == word(rest, 4))
+        & (st.reports.max_res == word(rest, 5))
+        & (st.reports.dx_min == word(rest, 6))
+        & (st.reports.dy_min == word(rest, 7))
 }
 
 // Setup with so many bytes and marks lent beyond what is needed.
@@ -48,7 +48,7 @@ fn set_up(rest: &[u8], beyond: u32) -> bool {
         needed + more,
     );
     let st = up.state;
-    calls::says(up, 0)
+    setups::says(up, 0)
         & reports(st, rest)
         & bytes::same(lent::inside(&table, stored.len()), stored)
         & bytes::all_are(lent::inside(&marks, needed), 0)
@@ -62,7 +62,7 @@ fn short_table(rest: &[u8]) -> bool {
     if needed == 0 {
         return false;
     }
-    calls::refused(sheet_of(rest), needed - 1, length(rest, 1), -7)
+    setups::refused(sheet_of(rest), needed - 1, length(rest, 1), -7)
 }
 
 // One mark too few: -6, whatever is lent for the table.
@@ -71,8 +71,8 @@ fn short_marks(rest: &[u8]) -> bool {
     if needed == 0 {
         return true;
     }
-    calls::refused(sheet_of(rest), 16 * length(rest, 2), needed - 1, -6)
-        & calls::refused(sheet_of(rest), 0, needed - 1, -6)
+    setups::refused(sheet_of(rest), 16 * length(rest, 2), needed - 1, -6)
+        & setups::refused(sheet_of(rest), 0, needed - 1, -6)
 }
 
 pub(crate) fn right(rest: &[u8]) -> bool {

@@ -1,15 +1,15 @@
 // The dead feed: a progression with no layers (document 01's sheet A with kind 4 `0 0 0 0 2 1`) has nothing to give. The Rust's second call
 // marks a precinct there, so that a region with no packets looks alive; here the answer is 0 for good, and no mark is set.
 use crate::bytes;
-use crate::calls;
 use crate::lent;
 use crate::lent::FILL;
 use crate::lent::MARKS;
 use crate::lent::TABLE;
 use crate::same;
-use packets::answer::Stepped;
-use packets::cursor::Cursor;
-use packets::state::State;
+use crate::setups;
+use types::answer::Stepped;
+use types::cursor::Cursor;
+use types::state::State;
 use words::put_word;
 
 // The eight words of a record.
@@ -53,7 +53,7 @@ fn stays_dead() -> bool {
     let st = up.state;
     let first = ends(st, lent::inside(&table, 32), &mut marks, Cursor::fresh(0));
     let second = ends(st, lent::inside(&table, 32), &mut marks, Cursor::ended(0));
-    calls::says(up, 0)
+    setups::says(up, 0)
         & first
         & second
         & bytes::all_are(lent::inside(&marks, 8), 0)

@@ -1,10 +1,10 @@
 // What is lent stands in a larger buffer, between guard bytes that must not change.
 use crate::bytes;
-use packets::answer::Opened;
-use packets::answer::SetUp;
-use packets::answer::Stepped;
-use packets::cursor::Cursor;
-use packets::state::State;
+use types::answer::Opened;
+use types::answer::SetUp;
+use types::answer::Stepped;
+use types::cursor::Cursor;
+use types::state::State;
 ghost use mathlib.Core.Path.{_≡_};
 ghost use Prim.Native.Nat.{_≤_, min};
 ghost use lib.ListN.{length};
@@ -94,7 +94,7 @@ pub(crate) fn setup(
     let t1 = end_of(table, table_bytes);
     let m0 = start_of(marks);
     let m1 = end_of(marks, mark_bytes);
-    sheets::setup(sheet, &mut table[t0..t1], &mut marks[m0..m1])
+    calls::setup::setup(sheet, &mut table[t0..t1], &mut marks[m0..m1])
 }
 
 // The whole run with so many bytes of each buffer lent.
@@ -113,7 +113,7 @@ pub(crate) fn whole_run(
     let m1 = end_of(marks, mark_bytes);
     let o0 = start_of(output);
     let o1 = end_of(output, output_bytes);
-    walks::whole::whole_run(
+    calls::whole::whole_run(
         sheet,
         &mut table[t0..t1],
         &mut marks[m0..m1],
@@ -131,7 +131,7 @@ pub(crate) fn step(
 ) -> Stepped {
     let m0 = start_of(marks);
     let m1 = end_of(marks, mark_bytes);
-    walks::step::step(st, table, &mut marks[m0..m1], cursor)
+    calls::step::step(st, table, &mut marks[m0..m1], cursor)
 }
 
 pub(crate) fn open(
@@ -141,5 +141,5 @@ pub(crate) fn open(
     mark_bytes: usize,
     progression: u32,
 ) -> Opened {
-    sheets::open(st, table, inside(marks, mark_bytes), progression)
+    calls::open::open(st, table, inside(marks, mark_bytes), progression)
 }

@@ -3,17 +3,17 @@
 use crate::bytes;
 use crate::bytes::length;
 use crate::bytes::signed;
-use crate::calls;
 use crate::lent;
 use crate::lent::FILL;
 use crate::lent::MOST_MARKS;
 use crate::lent::TABLE;
+use crate::setups;
 
 fn accepted(sheet: &[u8], table_bytes: usize, mark_bytes: usize) -> bool {
     let mut table = [FILL; TABLE];
     let mut marks = [FILL; MOST_MARKS];
     let up = lent::setup(sheet, &mut table, table_bytes, &mut marks, mark_bytes);
-    calls::says(up, 0)
+    setups::says(up, 0)
         & bytes::all_are(lent::inside(&marks, mark_bytes), 0)
         & lent::only_inside(&table, table_bytes)
         & lent::only_inside(&marks, mark_bytes)
@@ -25,6 +25,6 @@ pub(crate) fn right(rest: &[u8]) -> bool {
     if number == 0 {
         accepted(sheet, length(rest, 1), length(rest, 2))
     } else {
-        calls::refused(sheet, length(rest, 1), length(rest, 2), number)
+        setups::refused(sheet, length(rest, 1), length(rest, 2), number)
     }
 }

@@ -2,7 +2,6 @@
 // data/model those of a model of document 01; bench/README.md has their format. A line for each kind says how many cases were wrong.
 mod accepted;
 mod bytes;
-mod calls;
 mod cursors;
 mod dead_feed;
 mod file;
@@ -10,6 +9,7 @@ mod lent;
 mod limits;
 mod numbers;
 mod same;
+mod setups;
 mod steps;
 mod tally;
 mod walked;

@@ -1,9 +1,9 @@
 // Positions, cursors and states compared with what is expected.
-use packets::cursor::Cursor;
-use packets::cursor::Place;
-use packets::cursor::Position;
-use packets::state::Progression;
-use packets::state::State;
+use types::cursor::Cursor;
+use types::cursor::Place;
+use types::cursor::Position;
+use types::state::Progression;
+use types::state::State;
 
 pub(crate) fn position(p: Position, q: Position) -> bool {
     (p.layno == q.layno)
@@ -86,10 +86,10 @@ pub(crate) fn is_empty(st: State) -> bool {
         & (st.layers == 0)
         & (st.components == 0)
         & (st.progressions == 0)
-        & (st.max_prec == 0)
-        & (st.max_res == 0)
-        & (st.dx_min == 0)
-        & (st.dy_min == 0)
+        & (st.reports.max_prec == 0)
+        & (st.reports.max_res == 0)
+        & (st.reports.dx_min == 0)
+        & (st.reports.dy_min == 0)
         & no_numbers(&dx)
         & no_numbers(&dy)
         & no_numbers(&resolutions)

@@ -4,18 +4,18 @@
 use crate::bytes;
 use crate::bytes::length;
 use crate::bytes::word;
-use crate::calls;
 use crate::cursors;
 use crate::lent;
 use crate::lent::FILL;
 use crate::lent::SMALL;
 use crate::same;
+use crate::setups;
 use crate::tally::Tally;
 use crate::walked::mark_of;
-use packets::answer::Stepped;
-use packets::cursor::Cursor;
-use packets::cursor::Place;
-use packets::state::State;
+use types::answer::Stepped;
+use types::cursor::Cursor;
+use types::cursor::Place;
+use types::state::State;
 ghost use Prim.Native.Nat.{_<_, _^_};
 
 // The number of a refused step.
@@ -114,7 +114,7 @@ fn right(rest: &[u8], trial: Trial, cursor: Cursor, outcome: u32) -> bool {
     mark_found(st, found, &mut expected);
     let part = lent::inside(&table, trial.table_bytes);
     let said = lent::step(st, part, &mut marks, trial.mark_bytes, cursor);
-    calls::says(up, 0) & answers(said, cursor, outcome, found) & bytes::same(&marks, &expected)
+    setups::says(up, 0) & answers(said, cursor, outcome, found) & bytes::same(&marks, &expected)
 }
 
 // An entry of the cursors: what it comes from, how, and the outcome.

@@ -4,7 +4,7 @@ pub(crate) struct Tally {
     pub(crate) kind: u32,
     pub(crate) cases: u32,
     pub(crate) wrong: u32,
-    // false behind the last case
+    // false after the last case
     pub(crate) going: bool,
 }
 

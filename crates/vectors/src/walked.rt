@@ -1,21 +1,21 @@
 // The steps of an accepted sheet: every progression in turn, each up to its 0 and once more, lists the stored packets in order and sets their marks.
 use crate::bytes;
 use crate::bytes::word;
-use crate::calls;
 use crate::lent;
 use crate::lent::FILL;
 use crate::lent::GUARD;
 use crate::lent::MARKS;
 use crate::lent::TABLE;
 use crate::same;
+use crate::setups;
 use geometry::math::wrapping_mul;
-use packets::answer::Opened;
-use packets::answer::Stepped;
-use packets::cursor::Cursor;
-use packets::cursor::Place;
-use packets::cursor::Position;
-use packets::state::State;
 use std::num::wrapping_add_u32;
+use types::answer::Opened;
+use types::answer::Stepped;
+use types::cursor::Cursor;
+use types::cursor::Place;
+use types::cursor::Position;
+use types::state::State;
 
 // Packets listed so far, whether all were the stored ones, and where the progression stands.
 struct Listing {
@@ -30,10 +30,10 @@ const MOST: u32 = 65_536;
 
 // The index of a packet's mark in its buffer, by document 01's strides.
 pub(crate) fn mark_of(st: State, layno: u32, resno: u32, compno: u32, precno: u32) -> usize {
-    let resolution = wrapping_mul(st.components, st.max_prec);
-    let layer = wrapping_mul(st.max_res, resolution);
+    let resolution = wrapping_mul(st.components, st.reports.max_prec);
+    let layer = wrapping_mul(st.reports.max_res, resolution);
     let in_layer = wrapping_add_u32(wrapping_mul(layno, layer), wrapping_mul(resno, resolution));
-    let in_component = wrapping_add_u32(wrapping_mul(compno, st.max_prec), precno);
+    let in_component = wrapping_add_u32(wrapping_mul(compno, st.reports.max_prec), precno);
     GUARD + (wrapping_add_u32(in_layer, in_component) as usize)
 }
 
@@ -114,7 +114,7 @@ fn to_end(
     listing
 }
 
-// Progression k, opened, to its 0, and one step behind it, which is 0 again.
+// Progression k, opened, to its 0, and one step after it, which is 0 again.
 fn progression(
     st: State,
     table: &[u8],
@@ -207,7 +207,7 @@ pub(crate) fn right(sheet: &[u8], table_bytes: usize, packets: &[u8], needed: us
         needed,
         packets,
     );
-    calls::says(up, 0)
+    setups::says(up, 0)
         & listing.right
         & (16 * (listing.count as usize) == packets.len())
         & bytes::same(&marks, &expected)

@@ -8,9 +8,9 @@ use Rattle.laws.specs.Axis.{up-grows}
 use Rattle.laws.specs.Nest.{resumed}
 use Rattle.laws.specs.NestMoved.{no-turn, one-and-later}
 use Rattle.packets.specs.Tile.{Sheet}
-use Rattle.packets.specs.Orders.{Range}
+use Rattle.types.specs.declared.order.Range.{Range}
 use Rattle.packets.specs.Positions.{met, numberAt, layers, thePrecinct}
-use Rattle.packets.specs.declared.cursor.Position.{Position}
+use Rattle.types.specs.declared.cursor.Position.{Position}
 use Rattle.walks.specs.Prepared.{pointOf}
 use Rattle.walks.specs.Going.{Rest}
 
@@ -25,6 +25,13 @@ layersFrom r c x y k l s g = resumed (layers g ∷ []) ((λ p. l) ∷ []) (packe
 -- those of the precinct that is met at a point
 unfoldable pub cellFrom : ℕ → ℕ → ℕ → ℕ → ℕ → Rest
 cellFrom r c x y l s g = resumed (thePrecinct s ∷ layers g ∷ []) (numberAt s ∷ (λ p. l) ∷ []) (pointOf r c x y)
+
+-- .. of a position: its precinct, and its point
+abbrev pub layersAt : Position → ℕ → Rest
+layersAt p l = layersFrom (p .resno) (p .compno) (p .x) (p .y) (p .precno) l
+
+abbrev pub cellAt : Position → Rest
+cellAt p = cellFrom (p .resno) (p .compno) (p .x) (p .y) 0
 
 module _ (s : Sheet) (g : Range) (r c x y : ℕ) where
   -- no precinct is met

@@ -13,12 +13,12 @@ use Rattle.packets.specs.Tile.{Sheet, lineX, lineY, width, height, precincts}
 use Rattle.packets.specs.Good.{Good}
 use Rattle.packets.specs.Met.{precincts-of, precincts-in, MetAt, met-small}
 use Rattle.packets.specs.Positions.{met, numberAt}
-use Rattle.packets.specs.declared.cursor.Position.{Position}
-use Rattle.walks.specs.Prepared.{field, widthIn, insideStart, hitBy, Entry, AtPoint, pointOf, cellOf}
+use Rattle.types.specs.declared.cursor.Position.{Position}
+use Rattle.walks.specs.Prepared.{widthIn, alongX, alongY, alongOf, hitBy, columnBy, Entry, AtPoint, pointOf, cellOf}
 use Rattle.walks.specs.declared.cell.Cell.the-variants.{At, Nothing}
 
 -- THE HIT LAW: the point test by the step and the start inside a precinct
-pub hit-law : (l : Line) (z : ℕ) → z < 4294967295 → hitAt l z ≡ hitBy (step l) (insideStart l) z
+pub hit-law : (l : Line) (z : ℕ) → z < 4294967295 → hitAt l z ≡ hitBy (alongOf l) z
 unfolding hitAt
 hit-law l z h = ap (λ (t : Bool). eqb (z % step l) 0 || t) (by (whole l) (eqb z (l .t0)) refl)
   where
@@ -49,19 +49,19 @@ module _ (s : Sheet) (prep : List ℕ) (r c : ℕ) (e : Entry s prep r c) where
       (λ t. t)
 
   -- the point tests
-  pub hit-x : 0 < precincts s c r → (x : ℕ) → x < 4294967295 → hitBy (field prep r c 1) (field prep r c 3) x ≡ hitAt (lineX s c r) x
-  hit-x h x k = let l = e .lines h in rw (l .step-x, l .start-x) (sym (hit-law (lineX s c r) x k))
+  pub hit-x : 0 < precincts s c r → (x : ℕ) → x < 4294967295 → hitBy (alongX prep r c) x ≡ hitAt (lineX s c r) x
+  hit-x h x k = let l = e .lines h in rw (l .x) (sym (hit-law (lineX s c r) x k))
 
-  pub hit-y : 0 < precincts s c r → (y : ℕ) → y < 4294967295 → hitBy (field prep r c 2) (field prep r c 4) y ≡ hitAt (lineY s c r) y
-  hit-y h y k = let l = e .lines h in rw (l .step-y, l .start-y) (sym (hit-law (lineY s c r) y k))
+  pub hit-y : 0 < precincts s c r → (y : ℕ) → y < 4294967295 → hitBy (alongY prep r c) y ≡ hitAt (lineY s c r) y
+  hit-y h y k = let l = e .lines h in rw (l .y) (sym (hit-law (lineY s c r) y k))
 
   -- the steps are above 0
   module _ (good : Good s) (known : c < s .st .components) where
-    pub pos-x : 0 < precincts s c r → 1 ≤ field prep r c 1
-    pos-x h = rw (e .lines h .step-x) (posStep (lineX s c r) (good .step-x c known))
+    pub pos-x : 0 < precincts s c r → 1 ≤ alongX prep r c .step
+    pos-x h = rw (e .lines h .x) (posStep (lineX s c r) (good .step-x c known))
 
-    pub pos-y : 0 < precincts s c r → 1 ≤ field prep r c 2
-    pos-y h = rw (e .lines h .step-y) (posStep (lineY s c r) (good .step-y c known))
+    pub pos-y : 0 < precincts s c r → 1 ≤ alongY prep r c .step
+    pos-y h = rw (e .lines h .y) (posStep (lineY s c r) (good .step-y c known))
 
 -- A POINT
 module _ (s : Sheet) (prep : List ℕ) (r c x y : ℕ) (a : AtPoint s prep r c x y) where
@@ -78,43 +78,43 @@ module _ (s : Sheet) (prep : List ℕ) (r c x y : ℕ) (a : AtPoint s prep r c x
     has : 0 < precincts s c r
     has = some s prep r c at-entry n
 
-    row-hit : hitBy (field prep r c 2) (field prep r c 4) y ≡ hitAt (lineY s c r) y
+    row-hit : hitBy (alongY prep r c) y ≡ hitAt (lineY s c r) y
     row-hit = hit-y s prep r c at-entry has y (omega (arith, a .bottom, a .play .ends-y))
 
-    column-hit : hitBy (field prep r c 1) (field prep r c 3) x ≡ hitAt (lineX s c r) x
+    column-hit : hitBy (alongX prep r c) x ≡ hitAt (lineX s c r) x
     column-hit = hit-x s prep r c at-entry has x (omega (arith, a .right, a .play .ends-x))
 
     -- where the column meets none, none is met
-    pub cell-no-column : hitBy (field prep r c 2) (field prep r c 4) y ≡ true → hitBy (field prep r c 1) (field prep r c 3) x ≡ false → Nothing ≡ cellOf s r c x y
+    pub cell-no-column : hitBy (alongY prep r c) y ≡ true → hitBy (alongX prep r c) x ≡ false → Nothing ≡ cellOf s r c x y
     unfolding cellOf met
     cell-no-column p z = rw (lt-ltb 0 (precincts s c r) has, sym row-hit ∙ p, sym column-hit ∙ z)
 
     -- where both do
-    module _ (p : hitBy (field prep r c 2) (field prep r c 4) y ≡ true) (q : hitBy (field prep r c 1) (field prep r c 3) x ≡ true) where
+    module _ (p : hitBy (alongY prep r c) y ≡ true) (q : hitBy (alongX prep r c) x ≡ true) where
       is-met : met s (pointOf r c x y) ≡ true
       unfolding met
       is-met = rw (lt-ltb 0 (precincts s c r) has, sym row-hit ∙ p, sym column-hit ∙ q)
 
-      column-is : (columnOf (lineX s c r) x ≡ x / field prep r c 1 - field prep r c 5) × (field prep r c 5 ≤ x / field prep r c 1)
+      column-is : (columnOf (lineX s c r) x ≡ columnBy (alongX prep r c) x) × (alongX prep r c .first ≤ x / alongX prep r c .step)
       column-is =
           let l = at-entry .lines has in
-          rw (l .step-x, l .first-x) (hit-quotient (lineX s c r) (a .play .good .step-x c at-known) x (a .left) (sym column-hit ∙ q))
+          rw (l .x) (hit-quotient (lineX s c r) (a .play .good .step-x c at-known) x (a .left) (sym column-hit ∙ q))
 
-      row-is : (columnOf (lineY s c r) y ≡ y / field prep r c 2 - field prep r c 6) × (field prep r c 6 ≤ y / field prep r c 2)
+      row-is : (columnOf (lineY s c r) y ≡ columnBy (alongY prep r c) y) × (alongY prep r c .first ≤ y / alongY prep r c .step)
       row-is =
           let l = at-entry .lines has in
-          rw (l .step-y, l .first-y) (hit-quotient (lineY s c r) (a .play .good .step-y c at-known) y (a .top) (sym row-hit ∙ p))
+          rw (l .y) (hit-quotient (lineY s c r) (a .play .good .step-y c at-known) y (a .top) (sym row-hit ∙ p))
 
       -- the first column is at most the quotient
-      pub column-from : field prep r c 5 ≤ x / field prep r c 1
+      pub column-from : alongX prep r c .first ≤ x / alongX prep r c .step
       column-from = column-is .1
 
-      number-is : numberAt s (pointOf r c x y) ≡ x / field prep r c 1 - field prep r c 5 + (y / field prep r c 2 - field prep r c 6) * widthIn prep r c
+      number-is : numberAt s (pointOf r c x y) ≡ columnBy (alongX prep r c) x + columnBy (alongY prep r c) y * widthIn prep r c
       unfolding numberAt
       number-is = rw (column-is .0, row-is .0, wide-of s prep r c at-entry has)
 
       -- the number fits
-      pub number-small : x / field prep r c 1 - field prep r c 5 + (y / field prep r c 2 - field prep r c 6) * widthIn prep r c < 65536
+      pub number-small : columnBy (alongX prep r c) x + columnBy (alongY prep r c) y * widthIn prep r c < 65536
       unfolding met numberAt
       number-small =
           let at : Position = record { layno = 0; resno = r; compno = c; precno = numberAt s (pointOf r c x y); x = x; y = y } in
@@ -124,6 +124,6 @@ module _ (s : Sheet) (prep : List ℕ) (r c x y : ℕ) (a : AtPoint s prep r c x
           omega (arith, number-is)
 
       -- the precinct that is met
-      pub cell-met : At (x / field prep r c 1 - field prep r c 5 + (y / field prep r c 2 - field prep r c 6) * widthIn prep r c) ≡ cellOf s r c x y
+      pub cell-met : At (columnBy (alongX prep r c) x + columnBy (alongY prep r c) y * widthIn prep r c) ≡ cellOf s r c x y
       unfolding cellOf
       cell-met = rw (is-met, number-is)

@@ -4,17 +4,17 @@ use mathlib.Core.Bool.{Bool}
 use mathlib.Core.List.{List, [], _∷_, _++_}
 use Prim.Native.Nat.{ℕ, _+_, _≤_, _<_}
 use native.Mathlib.Omega.{arith}
-use lib.ListN.{length, getD}
-use lib.Dec.{eqb}
+use lib.ListN.{length}
+use Rattle.laws.specs.Marks.{freeAt}
 use Rattle.laws.specs.Axis.{up-grows}
 use Rattle.laws.specs.Nest.{Loop, resumed}
 use Rattle.laws.specs.NestMoved.{no-turn, one-and-later}
 use Rattle.packets.specs.Tile.{Sheet, precincts, indexOf}
-use Rattle.packets.specs.Orders.{Range}
+use Rattle.types.specs.declared.order.Range.{Range}
 use Rattle.packets.specs.Positions.{components, everyPrecinct}
 use Rattle.packets.specs.Met.{precincts-in}
 use Rattle.packets.specs.Inside.{Inside}
-use Rattle.packets.specs.declared.cursor.Position.{Position}
+use Rattle.types.specs.declared.cursor.Position.{Position}
 use Rattle.walks.specs.Prepared.{numberIn}
 use Rattle.walks.specs.Walk.{indexBy, Counted}
 use Rattle.walks.specs.Going.{Rest}
@@ -80,7 +80,7 @@ module _ (s : Sheet) (g : Range) (counts : List ℕ) (w : Walk) (marks : List �
         let q = counted .ranged in
         e ∙ counted .number r c (rw (← (q .resno0)) (t .level .res-from)) (rw (← (q .resno1)) (t .level .res-to)) (rw (← (q .compno0)) (t .comp-from)) (rw (← (q .compno1)) (t .comp-to))
 
-    -- one of so many precincts: its mark is below the largest number of marks, and below the marks' number; and what reading it says
+    -- one of so many precincts: its mark is below the largest number of marks, and below the marks' number
     module _ (k : ℕ) (h : k < n) where
       pub below : k < precincts s c r
       below = rw (← count-is) h
@@ -99,5 +99,8 @@ module _ (s : Sheet) (g : Range) (counts : List ℕ) (w : Walk) (marks : List �
       pub mark-is : indexBy w l r c k ≡ indexOf (s .st) (placeOf l r c k)
       mark-is = same-mark s g w marks (counted .ranged) (counted .good) (placeOf l r c k) inside (t .level .layer)
 
-      pub mark-read : (i : ℕ) (f t : Bool) → i ≡ indexBy w l r c k → f ≡ eqb (getD marks i 0) 0 → f ≡ t → eqb (getD marks (indexOf (s .st) (placeOf l r c k)) 0) 0 ≡ t
-      mark-read = reads-mark s g w marks (counted .ranged) (counted .good) (placeOf l r c k) inside (t .level .layer)
+      -- it is the next of its component's, and what is read of its mark is what the sheet's index finds
+      pub mark-read : (i : ℕ) (f t : Bool) → i ≡ indexBy w l r c k → f ≡ freeAt marks i → f ≡ t
+          → (leftK l r c k s g ≡ placeOf l r c k ∷ leftK l r c (k + 1) s g) × (freeAt marks (indexOf (s .st) (placeOf l r c k)) ≡ t)
+      mark-read i f u a b d =
+          (inK s g l r c k below, reads-mark s g w marks (counted .ranged) (counted .good) (placeOf l r c k) inside (t .level .layer) i f u a b d)

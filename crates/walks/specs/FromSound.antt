@@ -1,24 +1,26 @@
 -- A sound state can be prepared, and what is prepared from it serves the walks by points where its steps fit. Assumes nothing.
-use Prim.Native.Nat.{ℕ, _-_, _*_, _≤_, _<_}
-use mathlib.Core.Path.{_≡_, refl, ap, _∙_}
+use Prim.Native.Nat.{ℕ, _+_, _-_, _*_, _≤_, _<_}
+use mathlib.Core.Path.{_≡_, refl, ap}
 use mathlib.Core.List.{List}
 use mathlib.Core.Logic.{⊎-elim}
 use native.Mathlib.Omega.{arith}
 use lib.ListN.{getD}
+use borrow.Author.Tests.{lt-ltb}
 use Rattle.laws.specs.Cases.{le-or-lt}
-use Rattle.laws.specs.Below.{sumBelow, sum-most}
+use Rattle.laws.specs.Below.{sum-most}
 use Rattle.words.specs.Words.{wordAt}
-use Rattle.packets.specs.Tile.{resOf, width, height, precincts, entriesBefore, indexOf}
-use Rattle.packets.specs.Table.{sheetAt}
+use Rattle.packets.specs.Tile.{resOf, precincts, entriesBefore, indexOf}
+use Rattle.types.specs.Entries.{entryAt}
+use Rattle.packets.specs.Table.{entryWord, sheetAt}
 use Rattle.packets.specs.Good.{Good}
 use Rattle.packets.specs.Met.{precincts-of, precincts-in}
 use Rattle.packets.specs.Inside.{Inside}
 use Rattle.packets.specs.Once.{index-below}
 use Rattle.packets.specs.Meaning.{StepsFit, Sound, sound-means, sound-good}
-use Rattle.packets.specs.declared.state.State.{State}
-use Rattle.packets.specs.declared.cursor.Position.{Position}
+use Rattle.types.specs.declared.state.State.{State}
+use Rattle.types.specs.declared.cursor.Position.{Position}
 use Rattle.walks.specs.Prepared.{InPlay}
-use Rattle.walks.specs.Prepare.{Filled, Components, AllDone}
+use Rattle.walks.specs.Prepare.{Filled, entryOf, Components, AllDone}
 use Rattle.walks.specs.Filling.{all-filled}
 
 -- the numbers of a state's tile are prepared
@@ -43,49 +45,47 @@ module _ (st : State) (table marks : List ℕ) (w : Sound st table marks) where
   few-precincts c r h =
       ⊎-elim (λ z. omega arith) (λ z. few-of c r h (precincts-in (sheetAt st table) c r z) z) (le-or-lt (precincts (sheetAt st table) c r) 0)
 
-  -- IT CAN BE PREPARED
-  pub sound-components : Components (sheetAt st table) table (st .components) (st .dx) (st .dy) (st .resolutions) (st .tx0) (st .ty0)
+  -- IT CAN BE PREPARED: an entry is what the sheet says of its resolution
+  before : (c : ℕ) → c < st .components → entriesBefore st c ≤ 33 * c
   unfolding entriesBefore
+  before c h = sum-most (resOf st) 33 c (λ i q. w .component i (omega arith) .resolutions .1)
+
+  entry-is : (c r : ℕ) → c < st .components → r < resOf st c → entryAt table (entriesBefore st c + r) ≡ entryOf (sheetAt st table) c r
+  unfolding entryAt
+  entry-is c r h k =
+      let at : ℕ = entriesBefore st c + r in
+      let small : at < 528 = omega (arith, before c h, w .tile .components .1, w .component c h .resolutions .1) in
+      let e = w .entry c h r k in
+      let first : wordAt table (16 * at) ≡ entryWord st table 0 c r = ap (wordAt table) (omega arith) in
+      rw (lt-ltb at 528 small, first, e .wide, e .high)
+
+  pub sound-components : Components st table
   sound-components =
       record {
         most = w .tile .components .1;
         each = λ c h.
             let k = w .component c h in
-            let e : (r : ℕ) → r < resOf st c → width (sheetAt st table) c r * height (sheetAt st table) c r ≤ 65536
-            = λ r q. rw (precincts-of (sheetAt st table) c r q) at (few-precincts c r h) in
-            let b : sumBelow (λ i. getD (st .resolutions) i 0) c ≤ 33 * c
-            = sum-most (λ i. getD (st .resolutions) i 0) 33 c (λ i q. w .component i (omega arith) .resolutions .1) in
             record {
               resolutions = refl;
-              step-x = refl;
-              step-y = refl;
-              left = refl;
-              top = refl;
+              side-x = refl;
+              side-y = refl;
               small-x = k .dx .1;
               small-y = k .dy .1;
               levels = k .resolutions .1;
               components = omega (arith, w .tile .components .1);
-              near = omega (arith, w .tile .components .1);
-              word-x = λ r q. ap (wordAt table) (omega arith);
-              word-y = λ r q. ap (wordAt table) (omega arith);
-              word-wide = λ r q. ap (wordAt table) (omega arith) ∙ w .entry c h r q .wide;
-              word-high = λ r q. ap (wordAt table) (omega arith) ∙ w .entry c h r q .high;
+              near = omega (arith, before c h, w .tile .components .1);
+              entry = λ r q. entry-is c r h q;
               exponent-x = λ r q. w .entry c h r q .pdx;
               exponent-y = λ r q. w .entry c h r q .pdy;
-              few = e;
+              few = λ r q. rw (precincts-of (sheetAt st table) c r q) at (few-precincts c r h);
             };
       }
 
   -- in an array of zeros
-  pub sound-filled : (old prep : List ℕ)
-      → AllDone table (st .components) (st .dx) (st .dy) (st .resolutions) (st .tx0) (st .ty0) old prep (st .components)
-      → ((i : ℕ) → getD old i 0 ≡ 0) → st .tx1 ≤ 4294967295 → st .ty1 ≤ 4294967295 → AllFilled st table prep
+  pub sound-filled : (old prep : List ℕ) → AllDone st table old prep (st .components) → ((i : ℕ) → getD old i 0 ≡ 0) → st .tx1 ≤ 4294967295
+      → st .ty1 ≤ 4294967295 → AllFilled st table prep
   sound-filled old prep done clear x y =
-      record {
-        filled = all-filled (sheetAt st table) old prep table (st .components) (st .dx) (st .dy) (st .resolutions) (st .tx0) (st .ty0) sound-components done clear;
-        ends-x = x;
-        ends-y = y;
-      }
+      record { filled = all-filled st old prep table (w .tile .components .1) done clear; ends-x = x; ends-y = y }
 
   -- THEN ANY RANGE IS IN PLAY whose steps fit, as an agreed grid says
   pub sound-play : (prep : List ℕ) (r0 r1 c0 c1 : ℕ) → StepsFit (sheetAt st table) → AllFilled st table prep → r1 ≤ 33 → c1 ≤ st .components

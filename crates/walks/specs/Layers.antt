@@ -1,14 +1,15 @@
 -- What is asked for where the layers of a precinct, a cell and a point are gone through. Assumes nothing.
 use mathlib.Core.Path.{_≡_, sym, _∙_}
 use mathlib.Core.Bool.{Bool}
-use mathlib.Core.List.{List, []}
-use Prim.Native.Nat.{ℕ, _≤_, _<_}
-use lib.ListN.{length, getD}
-use lib.Dec.{eqb}
+use mathlib.Core.List.{List, [], _∷_}
+use Prim.Native.Nat.{ℕ, _+_, _≤_, _<_}
+use lib.ListN.{length}
+use Rattle.laws.specs.Marks.{freeAt}
 use Rattle.packets.specs.Tile.{Sheet, indexOf}
-use Rattle.packets.specs.Orders.{Range}
+use Rattle.types.specs.declared.order.Range.{Range}
 use Rattle.packets.specs.Good.{Good}
 use Rattle.packets.specs.Inside.{Inside}
+use Rattle.types.specs.declared.cursor.Position.{Position}
 use Rattle.walks.specs.Prepared.{numberIn, cellOf}
 use Rattle.walks.specs.InRow.{RowPoint, PointPlay}
 use Rattle.walks.specs.RowLaws.{point-part}
@@ -17,7 +18,7 @@ use Rattle.walks.specs.declared.cell.Cell.{Cell}
 use Rattle.walks.specs.declared.cell.Cell.the-variants.{At, Nothing}
 use Rattle.walks.specs.Walk.{Ranged, Ready, ready-long}
 use Rattle.walks.specs.Marks.{markBy, same-mark, fits-mark, has-mark, reads-mark}
-use Rattle.walks.specs.AtPoint.{packetOf, layersFrom, cellFrom, meets, misses}
+use Rattle.walks.specs.AtPoint.{packetOf, layersFrom, cellFrom, inL, meets, misses}
 use Rattle.walks.specs.declared.walk.Walk.{Walk}
 
 -- precinct k of component c at resolution r is one of the sheet's
@@ -26,8 +27,8 @@ pub record Layered (s : Sheet) (g : Range) (w : Walk) (marks : List ℕ) (r c x 
   pub good : Good s
   pub inside : Inside s (packetOf r c x y k 0)
 
-abbrev pub SomeLayers : Walk → List ℕ → ℕ → ℕ → ℕ → ℕ → ℕ → Type 0
-SomeLayers w marks r c x y k = (s : Sheet) × ((g : Range) × Layered s g w marks r c x y k)
+abbrev pub LayeredAt : Sheet → Range → Walk → List ℕ → Position → Type 0
+LayeredAt s g w marks p = Layered s g w marks (p .resno) (p .compno) (p .x) (p .y) (p .precno)
 
 -- the mark of one of its layers
 module _ (s : Sheet) (g : Range) (w : Walk) (marks : List ℕ) (r c x y k : ℕ) (d : Layered s g w marks r c x y k) (l : ℕ) (h : l < w .layno1) where
@@ -43,9 +44,11 @@ module _ (s : Sheet) (g : Range) (w : Walk) (marks : List ℕ) (r c x y k : ℕ)
   pub layer-there : markBy w (packetOf r c x y k l) < length marks
   layer-there = has-mark s g w marks (d .ranged) (d .good) (packetOf r c x y k l) inside h
 
-  pub layer-read : (i : ℕ) (f t : Bool) → i ≡ markBy w (packetOf r c x y k l) → f ≡ eqb (getD marks i 0) 0 → f ≡ t
-      → eqb (getD marks (indexOf (s .st) (packetOf r c x y k l)) 0) 0 ≡ t
-  layer-read = reads-mark s g w marks (d .ranged) (d .good) (packetOf r c x y k l) inside h
+  -- it is the next, and what is read of its mark is what the sheet's index finds
+  pub layer-read : (i : ℕ) (f t : Bool) → i ≡ markBy w (packetOf r c x y k l) → f ≡ freeAt marks i → f ≡ t
+      → (layersFrom r c x y k l s g ≡ packetOf r c x y k l ∷ layersFrom r c x y k (l + 1) s g) × (freeAt marks (indexOf (s .st) (packetOf r c x y k l)) ≡ t)
+  layer-read i f t a b e =
+      (inL s g r c x y k l (rw (← (d .ranged .layno1)) h), reads-mark s g w marks (d .ranged) (d .good) (packetOf r c x y k l) inside h i f t a b e)
 
 -- a walk that is ready stands at a point: a precinct is met, and it is one of the sheet's; or none is
 module _
@@ -69,6 +72,9 @@ pub record Celled (s : Sheet) (g : Range) (prep : List ℕ) (first : ℕ) (w : W
   pub stands : Stands w r c x y
   pub point : RowPoint s prep first r c x y
 
+abbrev pub CelledAt : Sheet → Range → List ℕ → ℕ → Walk → List ℕ → Position → Type 0
+CelledAt s g prep first w marks p = Celled s g prep first w marks (p .resno) (p .compno) (p .x) (p .y)
+
 -- .. and so do all components and resolutions in range
 pub record Pointed (s : Sheet) (g : Range) (prep row : List ℕ) (w : Walk) (marks : List ℕ) (x y : ℕ) : Type 0 where
   pub ready : Ready s g prep w marks
@@ -86,6 +92,15 @@ module _ (s : Sheet) (g : Range) (prep row : List ℕ) (w : Walk) (marks : List 
       let p = d .point in
       record {
         ready = d .ready;
-        stands = record { tile = record { left = rw (q .tx0) (p .left); right = rw (q .tx1) (p .right); top = rw (q .ty0) (p .at .top); bottom = rw (q .ty1) (p .at .bottom) }; res-from = a; res-to = b; comp-from = i; comp-to = j };
+        stands = record {
+          res-from = a;
+          res-to = b;
+          comp-from = i;
+          comp-to = j;
+          left = rw (q .tx0) (p .left);
+          right = rw (q .tx1) (p .right);
+          top = rw (q .ty0) (p .at .top);
+          bottom = rw (q .ty1) (p .at .bottom);
+        };
         point = point-part s prep row _ _ _ _ x y first r c e p a b i j;
       }

@@ -24,9 +24,8 @@ pub mod Records
 pub mod Search
 pub mod Plan
 pub mod Running
-pub mod Stepping
+pub mod Taking
 pub mod Listing
 pub mod Layers
 pub mod ByOrder
 pub mod RunAll
-pub mod Whole

@@ -5,13 +5,13 @@ use mathlib.Core.Bool.{true, false, cond}
 use mathlib.Core.List.{List, [], _∷_, _++_}
 use native.Mathlib.Omega.{arith}
 use Prim.Native.Nat.{ℕ, _+_, _*_, _≤_}
-use lib.ListN.{length, getD, set}
-use lib.Dec.{eqb}
+use lib.ListN.{length}
+use Rattle.laws.specs.Marks.{freeAt, markAt}
 use Rattle.laws.specs.Cases.{split}
 use Rattle.laws.specs.Runs.{mark, marked, unlisted, unlisted-free, unlisted-taken}
 use Rattle.packets.specs.Tile.{Sheet, indexOf}
-use Rattle.packets.specs.Orders.{Range}
-use Rattle.packets.specs.declared.cursor.Position.{Position}
+use Rattle.types.specs.declared.order.Range.{Range}
+use Rattle.types.specs.declared.cursor.Position.{Position}
 use Rattle.walks.specs.Records.{putPacket, putPackets}
 use Rattle.walks.specs.Marks.{markBy}
 use Rattle.walks.specs.Going.{Readiness, Rest}
@@ -21,26 +21,26 @@ use Rattle.walks.specs.declared.walk.Walk.{Walk}
 -- a packet is marked and written as record n, unless it is marked
 unfoldable pub listedOne : Walk → Position → List ℕ → List ℕ → ℕ → Total
 listedOne w p m o n =
-    cond (eqb (getD m (markBy w p) 0) 0)
-    (record { count = n + 1; marks = set m (markBy w p) 1; output = putPacket o (16 * n) p })
+    cond (freeAt m (markBy w p))
+    (record { count = n + 1; marks = markAt m (markBy w p); output = putPacket o (16 * n) p })
     (record { count = n; marks = m; output = o })
 
 module _ (w : Walk) (p : Position) (m o : List ℕ) (n : ℕ) where
-  pub listed-free : eqb (getD m (markBy w p) 0) 0 ≡ true
-      → record { count = n + 1; marks = set m (markBy w p) 1; output = putPacket o (16 * n) p } ≡ listedOne w p m o n
+  pub listed-free : freeAt m (markBy w p) ≡ true
+      → record { count = n + 1; marks = markAt m (markBy w p); output = putPacket o (16 * n) p } ≡ listedOne w p m o n
   unfolding listedOne
   listed-free e = rw e
 
-  pub listed-taken : eqb (getD m (markBy w p) 0) 0 ≡ false → record { count = n; marks = m; output = o } ≡ listedOne w p m o n
+  pub listed-taken : freeAt m (markBy w p) ≡ false → record { count = n; marks = m; output = o } ≡ listedOne w p m o n
   unfolding listedOne
   listed-taken e = rw e
 
-  -- the run goes on behind it
+  -- the run goes on after it
   pub total-one : (ix : Position → ℕ) → markBy w p ≡ ix p → (ps : List Position)
       → totalOf ix m o n (p ∷ ps) ≡ (let t = listedOne w p m o n in totalOf ix (t .marks) (t .output) (t .count) ps)
   unfolding listedOne totalOf marked putPackets
   total-one ix e ps =
-      split (eqb (getD m (ix p) 0) 0)
+      split (freeAt m (ix p))
       (λ t.
       let u : List Position = unlisted ix (mark ix m p) ps in
       let c : n + length (p ∷ u) ≡ n + 1 + length u = omega arith in

@@ -5,11 +5,12 @@ use Prim.Native.Nat.{ℕ, _+_, _≤_, _<_}
 use Rattle.laws.specs.Axis.{up-grows}
 use Rattle.laws.specs.Nest.{resumed}
 use Rattle.laws.specs.NestMoved.{no-turn, one-and-later}
-use Rattle.packets.specs.State.{origin}
+use Rattle.types.specs.State.{origin}
 use Rattle.packets.specs.Tile.{Sheet}
-use Rattle.packets.specs.Orders.{Range, lrcp}
+use Rattle.types.specs.declared.order.Order.the-variants.{Lrcp as lrcp}
+use Rattle.types.specs.declared.order.Range.{Range}
 use Rattle.packets.specs.Positions.{loopsOf, layers, resolutions}
-use Rattle.packets.specs.declared.cursor.Position.{Position}
+use Rattle.types.specs.declared.cursor.Position.{Position}
 use Rattle.walks.specs.Walk.{Counted}
 use Rattle.walks.specs.Going.{Rest}
 use Rattle.walks.specs.Counts.{inner, placeOf, level}

@@ -4,14 +4,14 @@ use mathlib.Core.Bool.{Bool}
 use mathlib.Core.List.{List}
 use Prim.Native.Nat.{ℕ, _<_}
 use native.Mathlib.Omega.{arith}
-use lib.ListN.{length, getD}
-use lib.Dec.{eqb}
+use lib.ListN.{length}
+use Rattle.laws.specs.Marks.{freeAt}
 use Rattle.packets.specs.Tile.{Sheet, needed, indexOf}
-use Rattle.packets.specs.Orders.{Range}
+use Rattle.types.specs.declared.order.Range.{Range}
 use Rattle.packets.specs.Good.{Good}
 use Rattle.packets.specs.Inside.{Inside}
 use Rattle.packets.specs.Once.{index-below}
-use Rattle.packets.specs.declared.cursor.Position.{Position}
+use Rattle.types.specs.declared.cursor.Position.{Position}
 use Rattle.walks.specs.Walk.{indexBy, Ranged}
 use Rattle.walks.specs.declared.walk.Walk.{Walk}
 
@@ -35,5 +35,5 @@ module _ (s : Sheet) (g : Range) (w : Walk) (marks : List ℕ) (q : Ranged s g w
   has-mark = omega (arith, below-needed, q .enough)
 
   -- what reading it says
-  pub reads-mark : (i : ℕ) (f t : Bool) → i ≡ markBy w p → f ≡ eqb (getD marks i 0) 0 → f ≡ t → eqb (getD marks (indexOf (s .st) p) 0) 0 ≡ t
-  reads-mark i f t a b d = ap (λ (j : ℕ). eqb (getD marks j 0) 0) (sym (a ∙ same-mark)) ∙ sym b ∙ d
+  pub reads-mark : (i : ℕ) (f t : Bool) → i ≡ markBy w p → f ≡ freeAt marks i → f ≡ t → freeAt marks (indexOf (s .st) p) ≡ t
+  reads-mark i f t a b d = ap (freeAt marks) (sym (a ∙ same-mark)) ∙ sym b ∙ d

@@ -10,7 +10,7 @@ use Rattle.laws.specs.Stride.{stride}
 use Rattle.packets.specs.Tile.{Sheet, precincts}
 use Rattle.packets.specs.Grid.{stepX, stepY}
 use Rattle.packets.specs.InPlay.{nextInPlay, nextBefore, playX, playY}
-use Rattle.walks.specs.Prepared.{field, widthIn, hitBy, Entry, InPlay, rangeBy, atRow}
+use Rattle.walks.specs.Prepared.{widthIn, alongX, alongY, hitBy, Entry, InPlay, rangeBy, atRow}
 use Rattle.walks.specs.Cells.{some, none, hit-y, pos-x, pos-y}
 
 -- the next multiple of the step of resolution r of component c, if it is in play
@@ -84,22 +84,22 @@ module _ (s : Sheet) (prep : List ℕ) (r c : ℕ) (e : Entry s prep r c) where
   pub rows-in : 0 < widthIn prep r c → playY s c r ≡ true
   rows-in h = lt-ltb 0 (precincts s c r) (some s prep r c e h)
 
-  pub step-rows : 0 < widthIn prep r c → stepY s c r ≡ field prep r c 2
-  step-rows h = sym (e .lines (some s prep r c e h) .step-y)
+  pub step-rows : 0 < widthIn prep r c → stepY s c r ≡ alongY prep r c .step
+  step-rows h = rw (e .lines (some s prep r c e h) .y)
 
   pub columns-out : (y : ℕ) → widthIn prep r c ≡ 0 → playX s (atRow y) c r ≡ false
   columns-out y z = rw (none s prep r c e z)
 
-  pub columns-row : (y : ℕ) → y < 4294967295 → 0 < widthIn prep r c → playX s (atRow y) c r ≡ hitBy (field prep r c 2) (field prep r c 4) y
+  pub columns-row : (y : ℕ) → y < 4294967295 → 0 < widthIn prep r c → playX s (atRow y) c r ≡ hitBy (alongY prep r c) y
   columns-row y k h = let n = some s prep r c e h in rw (lt-ltb 0 (precincts s c r) n) (sym (hit-y s prep r c e n y k))
 
-  pub step-columns : 0 < widthIn prep r c → stepX s c r ≡ field prep r c 1
-  step-columns h = sym (e .lines (some s prep r c e h) .step-x)
+  pub step-columns : 0 < widthIn prep r c → stepX s c r ≡ alongX prep r c .step
+  step-columns h = rw (e .lines (some s prep r c e h) .x)
 
 -- the steps in play are above 0
 module _ (s : Sheet) (prep : List ℕ) (r0 r1 c0 c1 r c : ℕ) (k : InPlay s prep r0 r1 c0 c1) (a : r0 ≤ r) (b : r < r1) (i : c0 ≤ c) (j : c < c1) where
-  pub play-x : 0 < widthIn prep r c → 1 ≤ field prep r c 1
+  pub play-x : 0 < widthIn prep r c → 1 ≤ alongX prep r c .step
   play-x h = let e = k .entry r c a b i j in pos-x s prep r c e (k .good) (omega (arith, k .known)) (some s prep r c e h)
 
-  pub play-y : 0 < widthIn prep r c → 1 ≤ field prep r c 2
+  pub play-y : 0 < widthIn prep r c → 1 ≤ alongY prep r c .step
   play-y h = let e = k .entry r c a b i j in pos-y s prep r c e (k .good) (omega (arith, k .known)) (some s prep r c e h)

@@ -3,7 +3,7 @@ use Prim.Native.Nat.{ℕ, _≤_}
 use mathlib.Core.Path.{_≡_}
 use mathlib.Core.List.{List}
 use Rattle.packets.specs.Tile.{Sheet}
-use Rattle.packets.specs.Orders.{Range}
+use Rattle.types.specs.declared.order.Range.{Range}
 use Rattle.walks.specs.Walk.{Ready}
 use Rattle.walks.specs.Turns.{in-play}
 use Rattle.walks.specs.declared.walk.Walk.{Walk}

@@ -1,4 +1,4 @@
--- PCRL: what is left of it from a place on is what is met at one point, and then the points behind it, from one at which something in play is met to the next.
+-- PCRL: what is left of it from a place on is what is met at one point, and then the points after it, from one at which something in play is met to the next.
 -- Assumes nothing.
 use mathlib.Core.Path.{_≡_, refl, sym, ap, _∙_}
 use mathlib.Core.List.{List, [], _∷_, _++_, append-assoc, append-nil}
@@ -7,15 +7,16 @@ use native.Mathlib.Omega.{arith}
 use Rattle.laws.specs.Axis.{up-grows}
 use Rattle.laws.specs.Nest.{Loop, resumed, turn-in, turn-out}
 use Rattle.laws.specs.NestMoved.{no-turn, one-and-later}
-use Rattle.packets.specs.State.{origin}
+use Rattle.types.specs.State.{origin}
 use Rattle.packets.specs.Tile.{Sheet}
-use Rattle.packets.specs.Orders.{Range, pcrl}
+use Rattle.types.specs.declared.order.Order.the-variants.{Pcrl as pcrl}
+use Rattle.types.specs.declared.order.Range.{Range}
 use Rattle.packets.specs.Positions.{loopsOf, layers, resolutions, components, rows, columns, thePrecinct, numberAt}
 use Rattle.packets.specs.Strided.{everything}
 use Rattle.packets.specs.Grid.{stepX, stepY}
 use Rattle.packets.specs.Skips.{skip-rows, skip-columns}
 use Rattle.packets.specs.InPlay.{nextBefore, nextInPlay, playX, playY, nextX, nextY, next-x-grows, next-y-grows, next-x-ends, next-y-ends, in-play-passes}
-use Rattle.packets.specs.declared.cursor.Position.{Position}
+use Rattle.types.specs.declared.cursor.Position.{Position}
 use Rattle.walks.specs.Prepared.{pointOf, atRow, rangeBy}
 use Rattle.walks.specs.Walk.{Ready}
 use Rattle.walks.specs.Going.{Rest}
@@ -52,6 +53,10 @@ leftR w y x c r l s g = resumed (insideC s g) ((λ p. r) ∷ numberAt s ∷ (λ 
 unfoldable pub leftX : Walk → ℕ → ℕ → ℕ → ℕ → ℕ → Rest
 leftX w y x c r l s g =
     resumed (columns s ∷ insideX s g) ((λ p. x) ∷ (λ p. c) ∷ (λ p. r) ∷ numberAt s ∷ (λ p. l) ∷ []) (pointOf 0 0 0 y) ++ onFrom w (nextY s g everything origin y) s g
+
+-- .. after the point at x
+abbrev pub afterX : Walk → ℕ → ℕ → Rest
+afterX w y x s g = leftX w y (nextX s g everything (pointOf 0 0 0 y) x) (w .compno0) (w .resno0) 0 s g
 
 module _ (s : Sheet) (g : Range) (prep : List ℕ) (w : Walk) (marks : List ℕ) (h : Ready s g prep w marks) (y x c r l : ℕ) where
   -- AT A POINT
@@ -106,8 +111,7 @@ module _ (s : Sheet) (g : Range) (prep : List ℕ) (w : Walk) (marks : List ℕ)
         (λ p. q .tx0, (λ p. q .compno0, (λ p. q .resno0, (λ p. refl, (λ p. refl, tt))))) y z above (in-play-passes s g everything .next-row origin tt y) (omega (arith, next-y-ends s g everything origin y below))
         ∙ append-nil (onFrom w z s g))
 
-    pub inX : w .tx0 ≤ x → x < w .tx1
-        → leftX w y x c r l s g ≡ point y x c r l s g ++ leftX w y (nextX s g everything (pointOf 0 0 0 y) x) (w .compno0) (w .resno0) 0 s g
+    pub inX : w .tx0 ≤ x → x < w .tx1 → leftX w y x c r l s g ≡ point y x c r l s g ++ afterX w y x s g
     unfolding leftX
     inX left right =
         let q = h .ranged in

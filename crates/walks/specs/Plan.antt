@@ -1,39 +1,38 @@
--- The plan of a progression, made once: its order and its walk; and that a search by it finds what is behind a place. Assumes nothing.
-use mathlib.Core.Path.{_≡_, refl, sym, ap, _∙_, subst}
-use mathlib.Core.Bool.{true, false, cond, true≢false}
-use mathlib.Core.List.{List, [], _∷_, List·Memᴰ as In, List·Memᴰ·head as here}
+-- The plan of a progression, made once: its order and its walk; what it is planned from, and what it goes over. Assumes nothing.
+use mathlib.Core.Path.{_≡_, refl, sym, ap, _∙_}
+use mathlib.Core.Bool.{Bool, true, false, cond, _&&_, true≢false}
+use mathlib.Core.List.{List, [], _∷_, List·Memᴰ as In, List·Memᴰ·head as here, List·Memᴰ·not-nil as not-in-nil}
 use native.Mathlib.Omega.{arith}
 use Prim.Native.Nat.{ℕ, _≤_, _<_}
-use lib.Dec.{eqb, ltb}
-use Rattle.laws.specs.Cases.{split, and-true}
-use Rattle.laws.specs.Means.{eqb-means, leb-means}
-use Rattle.packets.specs.Tile.{Sheet, indexOf, resOf, maxRes, strideC, strideR, strideL}
-use Rattle.packets.specs.Orders.{Order, lrcp, rlcp, rpcl, pcrl, cprl, other, Range, rangeOf, orderOf, componentsGood}
+use lib.Dec.{ltb}
+use borrow.Author.Tests.{lt-ltb}
+use Rattle.laws.specs.Cases.{split, and-true, and-both}
+use Rattle.laws.specs.Means.{leb-means}
+use Rattle.laws.specs.Below.{max-at, max-least}
+use Rattle.packets.specs.Tile.{Sheet, resOf, maxRes, strideC, strideR, strideL}
+use Rattle.types.specs.Orders.{rangeOf, orderOf, byPoints, componentsGood}
+use Rattle.types.specs.declared.order.Order.{Order}
+use Rattle.types.specs.declared.order.Order.the-variants.{Lrcp as lrcp, Rlcp as rlcp, Rpcl as rpcl, Pcrl as pcrl, Cprl as cprl, NoPositions as other}
+use Rattle.types.specs.declared.order.Range.{Range}
 use Rattle.packets.specs.Positions.{hasPositions, positionsIn}
 use Rattle.packets.specs.Table.{sheetAt}
 use Rattle.packets.specs.Grid.{changeOf}
 use Rattle.packets.specs.Sound.{positionsFor}
-use Rattle.packets.specs.Meaning.{Sound, Admitted, StepsFit, AgreedFor, sound-good, sound-means}
+use Rattle.packets.specs.Meaning.{Sound, StepsFit, AgreedFor, sound-good, sound-means}
 use Rattle.packets.specs.Good.{Good}
 use Rattle.packets.specs.Ended.{endedAt, positions-ended}
-use Rattle.packets.specs.Inside.{byPoints, has-good, good-has, positions-none, inside}
+use Rattle.packets.specs.Inside.{has-good, good-has, positions-none, in-positions, in-range, inside}
 use Rattle.packets.specs.Once.{below-most}
-use Rattle.packets.specs.Run.{layers-within}
-use Rattle.packets.specs.declared.state.State.{State}
-use Rattle.packets.specs.declared.state.Progression.{Progression}
-use Rattle.packets.specs.declared.cursor.Place.{Place}
-use Rattle.packets.specs.declared.cursor.Place.the-variants as place
+use Rattle.packets.specs.Turns.{layers-within}
+use Rattle.types.specs.declared.state.State.{State}
+use Rattle.types.specs.declared.state.Progression.{Progression}
 use Rattle.packets.specs.Calls.{after}
-use Rattle.laws.specs.Runs.{Answer, Ended, seek}
-use Rattle.laws.specs.Lists.{behind}
-use Rattle.packets.specs.declared.cursor.Position.{Position}
-use Rattle.sheets.specs.Ranges.{orderNumber, rangeIn, rangeFor, range-for}
-use Rattle.sheets.specs.declared.ranges.Range as ranges
-use Rattle.laws.specs.Below.{max-at, max-least}
+use Rattle.types.specs.declared.cursor.Position.{Position}
+use Rattle.types.specs.declared.cursor.Place.the-variants as place
 use Rattle.walks.specs.FromSound.{AllFilled, sound-play}
-use Rattle.walks.specs.Walk.{Ranged}
+use Rattle.walks.specs.Walk.{Ranged, Counted, Ready}
 use Rattle.walks.specs.Counting.{AllCounted}
-use Rattle.walks.specs.Search.{known-by, Ordered, Searched}
+use Rattle.walks.specs.Search.{leftFrom, firstOf, nextTry, Startable, some, Ordered, from-first, from-next, next-startable, next-small}
 use Rattle.walks.specs.declared.walk.Walk.{Walk}
 use Rattle.walks.specs.declared.plan.Plan.{Plan}
 
@@ -57,85 +56,81 @@ walkFor st g =
 
 -- a progression's range, up to the largest number of resolutions: its positions are the same (packets, Ended)
 abbrev pub goesOver : State → Progression → Range
-goesOver st q = endedAt (st .«max_res») (rangeOf st q)
+goesOver st q = endedAt (st .reports .«max_res») (rangeOf st q)
 
--- the order's number; 5 also where there are no precincts or the components are not good
-unfoldable pub orderIn : State → Progression → ℕ
-orderIn st q = cond (eqb (st .«max_prec») 0) 5 (cond (componentsGood st (rangeOf st q)) (orderNumber (orderOf (q .prg))) 5)
+-- whether a range admits a position: there are precincts and layers, and its components are good
+abbrev pub admits : State → Range → Bool
+admits st g = ltb 0 (st .reports .«max_prec») && (ltb 0 (g .layno1) && componentsGood st g)
+
+-- the order to walk in: none where no position is admitted
+unfoldable pub orderIn : State → Progression → Order
+orderIn st q = cond (admits st (rangeOf st q)) (orderOf (q .prg)) other
+
+pub order-admitted : (st : State) (q : Progression) → admits st (rangeOf st q) ≡ true → orderOf (q .prg) ≡ orderIn st q
+unfolding orderIn
+order-admitted st q e = rw e
+
+pub order-none : (st : State) (q : Progression) → admits st (rangeOf st q) ≡ false → other ≡ orderIn st q
+unfolding orderIn
+order-none st q e = rw e
+
+-- a progression of a sound state, planned
+pub record Planned (st : State) (table : List ℕ) (k : ℕ) (plan : Plan) (marks : List ℕ) : Type 0 where
+  pub sound : Sound st table marks
+  pub known : k < st .progressions
+  pub order : plan .order ≡ orderIn st (changeOf st k)
+  pub walk : plan .walk ≡ walkFor st (goesOver st (changeOf st k))
+
+-- there is an order or none
+dec-other : (o : Order) → Dec (o ≡ other)
+dec-other lrcp = no (some refl refl)
+dec-other rlcp = no (some refl refl)
+dec-other rpcl = no (some refl refl)
+dec-other pcrl = no (some refl refl)
+dec-other cprl = no (some refl refl)
+dec-other other = yes refl
 
 none-in : (ps : List Position) → ((p : Position) → In p ps → ⊥) → ps ≡ []
 none-in [] f = refl
 none-in (p ∷ ps) f = absurd (f p (here refl))
 
--- a progression of a sound state, planned, with the precincts of its tile counted
-pub record Planned (st : State) (table : List ℕ) (k : ℕ) (counts : List ℕ) (plan : Plan) (marks : List ℕ) : Type 0 where
-  pub sound : Sound st table marks
-  pub counted : AllCounted st table counts
-  pub known : k < st .progressions
-  pub order : plan .order ≡ orderIn st (changeOf st k)
-  pub walk : plan .walk ≡ walkFor st (goesOver st (changeOf st k))
-
-abbrev pub SomePlan : List ℕ → List ℕ → Plan → List ℕ → Place → Type 0
-SomePlan counts prep plan marks q =
-    (st : State) × ((table : List ℕ) × ((k : ℕ) × Planned st table k counts plan marks × AllFilled st table prep × Admitted q (positionsFor st table k)))
-
-module _ (st : State) (table : List ℕ) (k : ℕ) (counts : List ℕ) (plan : Plan) (marks : List ℕ) (d : Planned st table k counts plan marks) where
-  abbrev s : Sheet
-  s = sheetAt st table
+module _ (st : State) (table : List ℕ) (k : ℕ) (plan : Plan) (marks : List ℕ) (d : Planned st table k plan marks) where
+  abbrev sheet : Sheet
+  sheet = sheetAt st table
 
   abbrev q : Progression
   q = changeOf st k
 
-  abbrev g : Range
-  g = goesOver st q
+  abbrev range : Range
+  range = goesOver st q
 
   abbrev o : Order
   o = orderOf (q .prg)
 
-  good : Good s
+  good : Good sheet
   good = sound-good st table marks (sound-means st table marks .1 (d .sound))
 
   -- resolutions go up to 33
-  range-deep : g .resno1 ≤ 33
+  range-deep : range .resno1 ≤ 33
   unfolding maxRes
   range-deep = omega (arith, d .sound .deepest, max-least (resOf st) (st .components) 33 (λ c h. d .sound .component c h .resolutions .1))
 
-  -- what the walk goes over are the progression's positions
-  pub over-all : positionsIn s g o ≡ positionsFor st table k
+  over-range : positionsIn sheet range o ≡ positionsFor st table k
   unfolding maxRes
-  over-all = positions-ended s (rangeOf st q) (st .«max_res») good (λ c h. omega (arith, d .sound .deepest, max-at (resOf st) (st .components) c h)) o
+  over-range = positions-ended sheet (rangeOf st q) (st .reports .«max_res») good (λ c h. omega (arith, d .sound .deepest, max-at (resOf st) (st .components) c h)) o
 
-  pub stands-over : (w : Place) → Admitted w (positionsFor st table k) → Admitted w (positionsIn s g o)
-  stands-over w = subst (Admitted w) (sym over-all)
+  -- A PLAN WITH AN ORDER goes by the progression's
+  module _ (n : plan .order ≡ other → ⊥) where
+    admitted : admits st (rangeOf st q) ≡ true
+    admitted = split (admits st (rangeOf st q)) (λ t. t) (λ t. absurd (n (d .order ∙ sym (order-none st q t))))
 
-  pub found-over : (w : Place) (a : Answer Position) → (Admitted w (positionsIn s g o) → a ≡ seek (indexOf st) marks (after w (positionsIn s g o)))
-      → Admitted w (positionsFor st table k) → a ≡ seek (indexOf st) marks (after w (positionsFor st table k))
-  found-over w a = subst (λ (ps : List Position). Admitted w ps → a ≡ seek (indexOf st) marks (after w ps)) over-all
+    is-order : plan .order ≡ o
+    is-order = d .order ∙ sym (order-admitted st q admitted)
 
-  fit : (o : Order) → byPoints o ≡ true → AgreedFor s o → StepsFit s
-  fit lrcp b a = absurd (true≢false (sym b))
-  fit rlcp b a = absurd (true≢false (sym b))
-  fit rpcl b a = a .0
-  fit pcrl b a = a .0
-  fit cprl b a = a
-  fit other b a = absurd (true≢false (sym b))
+    fine : componentsGood st range ≡ true
+    fine = and-true (ltb 0 (range .layno1)) _ (and-true (ltb 0 (st .reports .«max_prec»)) _ admitted .1) .1
 
-  -- a plan with an order goes by that order
-  module _ (n : (plan .order ≡ 5) → ⊥) where
-    fine : componentsGood st g ≡ true
-    unfolding orderIn
-    fine =
-        split (componentsGood st g) (λ t. t)
-        (λ t. absurd (n (d .order ∙ split (eqb (st .«max_prec») 0) (λ z. rw z) (λ z. rw (z, t)))))
-
-    is-order : orderNumber o ≡ plan .order
-    unfolding orderIn
-    is-order =
-        split (eqb (st .«max_prec») 0)
-        (λ z. absurd (n (d .order ∙ rw z)))
-        (λ z. sym (d .order ∙ rw (z, fine)))
-
-    ranged : Ranged s g (plan .walk) marks
+    ranged : Ranged sheet range (plan .walk) marks
     ranged =
         rw (d .walk)
         (record {
@@ -152,88 +147,91 @@ module _ (st : State) (table : List ℕ) (k : ℕ) (counts : List ℕ) (plan : P
           stride-r = refl;
           stride-c = refl;
           layers = layers-within st q;
-          components = leb-means (g .compno1) (st .components) .0 (and-true (ltb (g .compno0) (st .components)) _ fine .1);
+          components = leb-means (range .compno1) (st .components) .0 (and-true (ltb (range .compno0) (st .components)) _ fine .1);
           few = d .sound .few;
           enough = d .sound .marks-long;
         })
 
-    pub planned-ordered : Ordered s g counts (plan .walk) marks (plan .order) o
-    planned-ordered =
+    pub planned-ordered : Ordered sheet range (plan .walk) marks (plan .order)
+    planned-ordered = record { ranged = ranged; good = good; has = good-has sheet range (plan .order) n fine }
+
+    -- its precincts are counted
+    pub planned-counted : {counts : List ℕ} → AllCounted st table counts → Counted sheet range counts (plan .walk) marks
+    planned-counted a =
         record {
-          counted =
-              record {
-                ranged = ranged;
-                good = good;
-                resolutions = range-deep;
-                components = omega (arith, ranged .components, d .sound .tile .components .1);
-                number = λ r c i j m l. d .counted c r (omega (arith, ranged .components));
-              };
-          number = is-order;
-          has = good-has s g o (λ e. n (sym is-order ∙ ap orderNumber e)) fine;
+          ranged = ranged;
+          good = good;
+          resolutions = range-deep;
+          components = omega (arith, ranged .components, d .sound .tile .components .1);
+          number = λ r c i j m l. a c r (omega (arith, ranged .components));
         }
 
-    -- with its numbers prepared it can be searched
-    pub planned-searched : {prep : List ℕ} → AllFilled st table prep → Searched s g counts prep (plan .walk) marks (plan .order) o
-    planned-searched {prep} p =
-        record {
-          ordered = planned-ordered;
-          ready = λ b.
-              record {
-                ranged = ranged;
-                play = sound-play st table marks (d .sound) prep (g .resno0) (g .resno1) (g .compno0) (g .compno1)
-                    (fit o b (d .sound .grid k (d .known)))
-                    p
-                    range-deep
-                    (ranged .components);
-              };
-        }
+  -- an order by points is one; its numbers are prepared, and fit
+  steps-fit : (o : Order) → byPoints o ≡ true → AgreedFor sheet o → StepsFit sheet
+  steps-fit lrcp b a = absurd (true≢false (sym b))
+  steps-fit rlcp b a = absurd (true≢false (sym b))
+  steps-fit rpcl b a = a .0
+  steps-fit pcrl b a = a .0
+  steps-fit cprl b a = a
+  steps-fit other b a = absurd (true≢false (sym b))
 
-  -- a plan without one has no positions
-  without : componentsGood st (rangeOf st q) ≡ false → positionsFor st table k ≡ []
-  without f =
-      positions-none s (rangeOf st q) o
-      (split (hasPositions s (rangeOf st q) o) (λ t. absurd (true≢false (sym (has-good s (rangeOf st q) o t) ∙ f))) (λ t. t))
+  pub some-order : byPoints (plan .order) ≡ true → plan .order ≡ other → ⊥
+  some-order b e = true≢false (sym b ∙ ap byPoints e)
 
-  unknown : orderNumber o ≡ 5 → positionsFor st table k ≡ []
-  unknown e = positions-none s (rangeOf st q) o (ap (hasPositions s (rangeOf st q)) (known-by o 5 5 e refl))
+  pub planned-ready : {prep : List ℕ} → AllFilled st table prep → byPoints (plan .order) ≡ true → Ready sheet range prep (plan .walk) marks
+  planned-ready {prep} p b =
+      let n = some-order b in
+      record {
+        ranged = ranged n;
+        play = sound-play st table marks (d .sound) prep (range .resno0) (range .resno1) (range .compno0) (range .compno1)
+            (steps-fit o (ap byPoints (sym (is-order n)) ∙ b) (d .sound .grid k (d .known)))
+            p
+            range-deep
+            (ranged n .components);
+      }
 
-  empty : st .«max_prec» ≡ 0 → positionsFor st table k ≡ []
-  empty e = none-in _ (λ p i. omega (arith, below-most s good p (inside s (rangeOf st q) good o p i)))
+  -- A PLAN WITHOUT ONE has no positions
+  some-admitted : (p : Position) → In p (positionsFor st table k) → admits st (rangeOf st q) ≡ true
+  some-admitted p i =
+      let g : Range = rangeOf st q in
+      and-both (lt-ltb 0 (st .reports .«max_prec») (omega (arith, below-most sheet good p (inside sheet g good o p i))))
+      (and-both (lt-ltb 0 (g .layno1) (omega (arith, in-range sheet g o p i .layer))) (has-good sheet g o (in-positions sheet g o p .0 i .0)))
 
-  pub planned-none : plan .order ≡ 5 → positionsFor st table k ≡ []
-  unfolding orderIn
+  pub planned-none : plan .order ≡ other → positionsFor st table k ≡ []
   planned-none e =
-      split (eqb (st .«max_prec») 0)
-      (λ z. empty (eqb-means _ 0 .0 z))
-      (λ z. split (componentsGood st (rangeOf st q)) (λ t. unknown (sym (sym e ∙ d .order ∙ rw (z, t)))) (λ t. without t))
+      split (admits st (rangeOf st q))
+      (λ t. positions-none sheet (rangeOf st q) o (ap (hasPositions sheet (rangeOf st q)) (order-admitted st q t ∙ sym (d .order) ∙ e)))
+      (λ t. none-in _ (λ p i. true≢false (sym (some-admitted p i) ∙ t)))
 
--- what makes a plan, from the code's range of the progression
-module _ (st : State) (q : Progression) (h : ranges.Range) (e : rangeIn h ≡ rangeFor (st .layers) (st .components) (st .«max_res») q) where
-  is-range : rangeIn h ≡ rangeOf st q
-  is-range = e ∙ range-for st q
+  -- so the plan's order, over its range, gives the progression's positions
+  pub planned-over : positionsIn sheet range (plan .order) ≡ positionsFor st table k
+  planned-over = of (dec-other (plan .order))
+    where
+      of : Dec (plan .order ≡ other) → positionsIn sheet range (plan .order) ≡ positionsFor st table k
+      of (yes e) = ap (positionsIn sheet range) e ∙ positions-none sheet range other refl ∙ sym (planned-none e)
+      of (no n) = ap (positionsIn sheet range) (is-order n) ∙ over-range
 
-  pub plan-walk : (w : Walk) → w ≡ walkFor st (endedAt (st .«max_res») (rangeIn h)) → w ≡ walkFor st (goesOver st q)
-  plan-walk w f = f ∙ ap (λ (g : Range). walkFor st (endedAt (st .«max_res») g)) is-range
+  -- FROM A PLACE: a fresh cursor leaves all of them
+  pub fresh-left : leftFrom sheet range (plan .order) (firstOf (plan .walk)) ≡ positionsFor st table k
+  fresh-left = of (dec-other (plan .order))
+    where
+      of : Dec (plan .order ≡ other) → leftFrom sheet range (plan .order) (firstOf (plan .walk)) ≡ positionsFor st table k
+      of (yes e) = ap (λ (x : Order). leftFrom sheet range x (firstOf (plan .walk))) e ∙ sym (planned-none e)
+      of (no n) = from-first sheet range (plan .walk) marks (plan .order) (planned-ordered n) ∙ planned-over
 
-  pub plan-empty : st .«max_prec» ≡ 0 → 5 ≡ orderIn st q
-  unfolding orderIn
-  plan-empty z = rw (eqb-means (st .«max_prec») 0 .1 z)
+  -- one at p what is after p
+  module _ (p : Position) (i : In p (positionsFor st table k)) where
+    has-order : plan .order ≡ other → ⊥
+    has-order e = not-in-nil (rw (planned-none e) at i)
 
-  module _ (z : (st .«max_prec» ≡ 0) → ⊥) where
-    some : eqb (st .«max_prec») 0 ≡ false
-    some = split (eqb (st .«max_prec») 0) (λ t. absurd (z (eqb-means (st .«max_prec») 0 .0 t))) (λ t. t)
+    there : In p (positionsIn sheet range (plan .order))
+    there = rw planned-over i
 
-    pub plan-bad : componentsGood st (rangeIn h) ≡ false → 5 ≡ orderIn st q
-    unfolding orderIn
-    plan-bad f = rw (some, sym (ap (componentsGood st) is-range) ∙ f)
+    pub at-startable : Startable (plan .order) (plan .walk) (nextTry (plan .order) p)
+    at-startable = next-startable sheet range (plan .walk) marks (plan .order) (planned-ordered has-order) p there
 
-    pub plan-good : (n : ℕ) → componentsGood st (rangeIn h) ≡ true → n ≡ orderNumber (orderOf (q .prg)) → n ≡ orderIn st q
-    unfolding orderIn
-    plan-good n f m = rw (some, sym (ap (componentsGood st) is-range) ∙ f) m
+    pub at-small : plan .walk .layno1 ≤ 4294967295 → (p .precno < 4294967295) × (p .layno < 4294967295)
+    at-small = next-small sheet range (plan .walk) marks (plan .order) (planned-ordered has-order) p there
 
--- nothing is found where there are no positions
-pub ended-after : (st : State) (marks : List ℕ) (q : Place) {ps : List Position} → ps ≡ [] → Ended ≡ seek (indexOf st) marks (after q ps)
-unfolding seek behind
-ended-after st marks place.Fresh e = rw e
-ended-after st marks (place.At p) e = rw e
-ended-after st marks place.Ended e = refl
+    pub at-left : leftFrom sheet range (plan .order) (nextTry (plan .order) p) ≡ after (place.At p) (positionsFor st table k)
+    at-left = from-next sheet range (plan .walk) marks (plan .order) (planned-ordered has-order .has) p there ∙ ap (after (place.At p)) planned-over

@@ -1,47 +1,49 @@
--- Preparing: what is written for a resolution of a component, and what a table, a component and a tile must be for it.
+-- Preparing: what is written for a resolution of a component, and what a state and a table must be for it.
 use Prim.Native.Nat.{ℕ, _+_, _*_, _/_, _%_, _^_, _≤_, _<_}
 use mathlib.Core.Path.{_≡_}
 use mathlib.Core.Bool.{cond}
 use mathlib.Core.List.{List}
-use lib.ListN.{length, getD, set}
+use lib.ListN.{length}
 use lib.Dec.{ltb, eqb}
-use Rattle.laws.specs.Below.{sumBelow}
-use Rattle.words.specs.Words.{wordAt}
-use Rattle.geometry.specs.Line.{boundOf}
-use Rattle.packets.specs.Tile.{Sheet, dxOf, dyOf, resOf, width, height, precincts}
+use Rattle.laws.specs.Ceiling.{ceilDiv}
+use Rattle.geometry.specs.Axis.{axisOf}
+use Rattle.packets.specs.Tile.{Sheet, dxOf, dyOf, resOf, width, height, precincts, entriesBefore}
 use Rattle.packets.specs.Grid.{stepX, stepY}
-use Rattle.walks.specs.Prepared.{field, Entry}
+use Rattle.types.specs.Entries.{entryAt}
+use Rattle.packets.specs.Table.{sheetAt}
+use Rattle.types.specs.declared.state.State.{State}
+use Rattle.types.specs.declared.table.Entry.{Entry as TableEntry}
+use Rattle.walks.specs.declared.prepared.Along.{Along}
+use Rattle.walks.specs.declared.prepare.Side.{Side}
+use Rattle.walks.specs.Prepared.{widthIn, alongX, alongY, putNumbers, Entry}
 
--- an axis that is prepared at place at: a component's step d, a level and an exponent in range
-pub record AxisIn (at d level pd : ℕ) : Type 0 where
-  pub room : at + 4 < 3696
-  pub small : d ≤ 255
+-- a component of step d along an axis of a tile that starts at t
+abbrev pub sideOf : ℕ → ℕ → Side
+sideOf t d = record { t = t; axis = axisOf t t d }
+
+-- a component, a level and an exponent in range
+pub record SideIn (a : Side) (level pd : ℕ) : Type 0 where
+  pub small : a .axis .d ≤ 255
   pub levels : level ≤ 32
   pub exponents : pd ≤ 15
 
--- the three numbers of an axis that starts at t: step, start inside a precinct, first column
-unfoldable pub putAxis : List ℕ → ℕ → ℕ → ℕ → ℕ → ℕ → List ℕ
-putAxis prep at t d level pd =
-    let low = boundOf t d level in
-    set (set (set prep at (d * 2 ^ (pd + level) % 4294967296)) (at + 2) (cond (eqb (low % 2 ^ pd) 0) 4294967295 t)) (at + 4) (low / 2 ^ pd)
+-- what is prepared for a resolution along it
+unfoldable pub alongBy : Side → ℕ → ℕ → Along
+alongBy a level pd =
+    let low = ceilDiv (a .axis .c0) (2 ^ level) in
+    record { step = a .axis .d * 2 ^ (pd + level) % 4294967296; start = cond (eqb (low % 2 ^ pd) 0) 4294967295 (a .t); first = low / 2 ^ pd }
 
--- a resolution that is prepared from place at on: its entry stands at place from of a table
-pub record ResolutionIn (at : ℕ) (table : List ℕ) (from level dx dy : ℕ) : Type 0 where
-  pub room : at + 6 < 3696
-  pub near : from < 18446744073709551600
-  pub small-x : dx ≤ 255
-  pub small-y : dy ≤ 255
-  pub levels : level ≤ 32
-  pub exponent-x : wordAt table from ≤ 15
-  pub exponent-y : wordAt table (from + 4) ≤ 15
-  pub few : wordAt table (from + 8) * wordAt table (from + 12) ≤ 65536
+-- a resolution, by its entry of the table
+pub record ResolutionIn (r c level : ℕ) (e : TableEntry) (x y : Side) : Type 0 where
+  pub resolutions : r < 33
+  pub components : c < 16
+  pub on-x : SideIn x level (e .pdx)
+  pub on-y : SideIn y level (e .pdy)
+  pub few : e .width * e .height ≤ 65536
 
--- its seven numbers
-unfoldable pub putEntry : List ℕ → ℕ → List ℕ → ℕ → ℕ → ℕ → ℕ → ℕ → ℕ → List ℕ
-putEntry prep at table from level dx dy tx0 ty0 =
-    let wide = wordAt table (from + 8) in
-    let count = wide * wordAt table (from + 12) in
-    putAxis (putAxis (set prep at (cond (ltb 0 count) wide 0)) (at + 1) tx0 dx level (wordAt table from)) (at + 2) ty0 dy level (wordAt table (from + 4))
+abbrev pub putEntry : List ℕ → ℕ → ℕ → ℕ → TableEntry → Side → Side → List ℕ
+putEntry prep r c level e x y =
+    putNumbers prep r c (cond (ltb 0 (e .width * e .height)) (e .width) 0) (alongBy x level (e .pdx)) (alongBy y level (e .pdy))
 
 -- the steps of a resolution that has precincts fit 32 bits
 abbrev pub Fitting : Sheet → ℕ → ℕ → Type 0
@@ -51,56 +53,56 @@ Fitting s c r = 0 < precincts s c r → (stepX s c r ≤ 4294967295) × (stepY s
 abbrev pub Filled : Sheet → List ℕ → ℕ → ℕ → Type 0
 Filled s prep r c = Fitting s c r → Entry s prep r c
 
--- component c of a sheet, with n resolutions and steps dx and dy in a tile that starts at (tx0, ty0): its entries stand in a table from place base on
-pub record Component (s : Sheet) (table : List ℕ) (base c n dx dy tx0 ty0 : ℕ) : Type 0 where
+-- 01: what the table says of a resolution
+abbrev pub entryOf : Sheet → ℕ → ℕ → TableEntry
+entryOf s c r = record { pdx = s .pdx c r; pdy = s .pdy c r; width = width s c r; height = height s c r }
+
+-- component c of a sheet, with n resolutions, along both axes: its entries stand in a table from number base on
+pub record Component (s : Sheet) (table : List ℕ) (base c n : ℕ) (x y : Side) : Type 0 where
   pub resolutions : n ≡ resOf (s .st) c
-  pub step-x : dx ≡ dxOf (s .st) c
-  pub step-y : dy ≡ dyOf (s .st) c
-  pub left : tx0 ≡ s .st .tx0
-  pub top : ty0 ≡ s .st .ty0
-  pub small-x : dx ≤ 255
-  pub small-y : dy ≤ 255
+  pub side-x : x ≡ sideOf (s .st .tx0) (dxOf (s .st) c)
+  pub side-y : y ≡ sideOf (s .st .ty0) (dyOf (s .st) c)
+  pub small-x : dxOf (s .st) c ≤ 255
+  pub small-y : dyOf (s .st) c ≤ 255
   pub levels : n ≤ 33
   pub components : c < 16
-  pub near : base ≤ 8448
-  pub word-x : (r : ℕ) → r < n → wordAt table (base + 16 * r) ≡ s .pdx c r
-  pub word-y : (r : ℕ) → r < n → wordAt table (base + 16 * r + 4) ≡ s .pdy c r
-  pub word-wide : (r : ℕ) → r < n → wordAt table (base + 16 * r + 8) ≡ width s c r
-  pub word-high : (r : ℕ) → r < n → wordAt table (base + 16 * r + 12) ≡ height s c r
+  pub near : base ≤ 495
+  pub entry : (r : ℕ) → r < n → entryAt table (base + r) ≡ entryOf s c r
   pub exponent-x : (r : ℕ) → r < n → s .pdx c r ≤ 15
   pub exponent-y : (r : ℕ) → r < n → s .pdy c r ≤ 15
   pub few : (r : ℕ) → r < n → width s c r * height s c r ≤ 65536
 
-abbrev pub SomeComponent : List ℕ → ℕ → ℕ → ℕ → ℕ → ℕ → ℕ → ℕ → Type 0
-SomeComponent table base c n dx dy tx0 ty0 = (s : Sheet) × Component s table base c n dx dy tx0 ty0
+abbrev pub SomeComponent : List ℕ → ℕ → ℕ → ℕ → Side → Side → Type 0
+SomeComponent table base c n x y = (s : Sheet) × Component s table base c n x y
+
+-- the numbers of resolution r of component c are the same
+pub record Same (old new : List ℕ) (r c : ℕ) : Type 0 where
+  pub wide : widthIn new r c ≡ widthIn old r c
+  pub x : alongX new r c ≡ alongX old r c
+  pub y : alongY new r c ≡ alongY old r c
 
 -- nothing but the numbers of resolutions r0 to r1 of component c was written
 abbrev pub Kept : List ℕ → List ℕ → ℕ → ℕ → ℕ → Type 0
-Kept old new r0 r1 c = (r i j : ℕ) → i < 16 → j < 7 → ((r0 ≤ r) → (r < r1) → (i ≡ c) → ⊥) → field new r i j ≡ field old r i j
+Kept old new r0 r1 c = (r i : ℕ) → i < 16 → ((r0 ≤ r) → (r < r1) → (i ≡ c) → ⊥) → Same old new r i
 
 -- the first m resolutions of a component are prepared, and nothing else was written
-pub record Done (table : List ℕ) (base c n dx dy tx0 ty0 : ℕ) (old new : List ℕ) (m : ℕ) : Type 0 where
+pub record Done (table : List ℕ) (base c n : ℕ) (x y : Side) (old new : List ℕ) (m : ℕ) : Type 0 where
   pub long : length new ≡ 3696
   pub kept : Kept old new 0 m c
-  pub filled : (s : Sheet) → Component s table base c n dx dy tx0 ty0 → (r : ℕ) → r < m → Filled s new r c
+  pub filled : (s : Sheet) → Component s table base c n x y → (r : ℕ) → r < m → Filled s new r c
 
--- the components of a sheet, k of them: the entries of each stand behind those of the ones before
-abbrev pub baseOf : List ℕ → ℕ → ℕ
-baseOf resolutions c = 16 * sumBelow (λ i. getD resolutions i 0) c
-
-pub record Components (s : Sheet) (table : List ℕ) (k : ℕ) (dx dy resolutions : List ℕ) (tx0 ty0 : ℕ) : Type 0 where
-  pub most : k ≤ 16
-  pub each : (c : ℕ) → c < k → Component s table (baseOf resolutions c) c (getD resolutions c 0) (getD dx c 0) (getD dy c 0) tx0 ty0
-
-abbrev pub SomeComponents : List ℕ → ℕ → List ℕ → List ℕ → List ℕ → ℕ → ℕ → Type 0
-SomeComponents table k dx dy resolutions tx0 ty0 = (s : Sheet) × Components s table k dx dy resolutions tx0 ty0
+-- the components of a state: the entries of each stand after those of the ones before
+pub record Components (st : State) (table : List ℕ) : Type 0 where
+  pub most : st .components ≤ 16
+  pub each : (c : ℕ) → c < st .components
+      → Component (sheetAt st table) table (entriesBefore st c) c (resOf st c) (sideOf (st .tx0) (dxOf st c)) (sideOf (st .ty0) (dyOf st c))
 
 -- nothing but the numbers of the resolutions of the first k components was written
-abbrev pub KeptBeyond : List ℕ → List ℕ → List ℕ → ℕ → Type 0
-KeptBeyond old new resolutions k = (r i j : ℕ) → i < 16 → j < 7 → ((i < k) → (r < getD resolutions i 0) → ⊥) → field new r i j ≡ field old r i j
+abbrev pub KeptBeyond : State → List ℕ → List ℕ → ℕ → Type 0
+KeptBeyond st old new k = (r i : ℕ) → i < 16 → ((i < k) → (r < resOf st i) → ⊥) → Same old new r i
 
 -- the first m components are prepared, and nothing else was written
-pub record AllDone (table : List ℕ) (k : ℕ) (dx dy resolutions : List ℕ) (tx0 ty0 : ℕ) (old new : List ℕ) (m : ℕ) : Type 0 where
+pub record AllDone (st : State) (table old new : List ℕ) (m : ℕ) : Type 0 where
   pub long : length new ≡ 3696
-  pub kept : KeptBeyond old new resolutions m
-  pub filled : (s : Sheet) → Components s table k dx dy resolutions tx0 ty0 → (c r : ℕ) → c < m → r < getD resolutions c 0 → Filled s new r c
+  pub kept : KeptBeyond st old new m
+  pub filled : (c r : ℕ) → c < m → r < resOf st c → Filled (sheetAt st table) new r c

@@ -1,49 +1,69 @@
 -- The numbers that are prepared once for each component and resolution, what they stand for, and what they answer at a point.
-use Prim.Native.Nat.{ℕ, _+_, _*_, _%_, _≤_, _<_}
+use Prim.Native.Nat.{ℕ, _+_, _-_, _*_, _/_, _%_, _≤_, _<_}
 use mathlib.Core.Path.{_≡_}
 use mathlib.Core.Bool.{Bool, cond, _||_}
 use mathlib.Core.List.{List}
-use lib.ListN.{getD}
+use lib.ListN.{getD, set}
 use lib.Dec.{ltb, eqb}
-use Rattle.geometry.specs.Line.{Line, whole, first}
+use Rattle.geometry.specs.Line.{Line, step, whole, first}
 use Rattle.packets.specs.Tile.{Sheet, lineX, lineY, width, precincts}
-use Rattle.packets.specs.Orders.{Range}
-use Rattle.packets.specs.Grid.{stepX, stepY}
+use Rattle.types.specs.declared.order.Range.{Range}
 use Rattle.packets.specs.Positions.{met, numberAt}
 use Rattle.packets.specs.Good.{Good}
-use Rattle.packets.specs.declared.cursor.Position.{Position}
+use Rattle.types.specs.declared.cursor.Position.{Position}
+use Rattle.walks.specs.declared.prepared.Along.{Along}
 use Rattle.walks.specs.declared.cell.Cell.{Cell}
 use Rattle.walks.specs.declared.cell.Cell.the-variants.{At, Nothing}
 
--- prepared number j of resolution r of component c: 0 width (0 where there is no precinct), 1 and 2 steps x and y, 3 and 4 the tile's start where it lies inside
--- a precinct, 5 and 6 first column and row
-abbrev pub field : List ℕ → ℕ → ℕ → ℕ → ℕ
-field prep r c j = getD prep (7 * (16 * r + c) + j) 0
-
--- number 0, where the code reads it
-abbrev pub widthIn : List ℕ → ℕ → ℕ → ℕ
-widthIn prep r c = getD prep (7 * (16 * r + c)) 0
-
--- the number of resolution r of component c, in an array of one for each
+-- ONE NUMBER for each resolution r of each component c
 abbrev pub numberIn : List ℕ → ℕ → ℕ → ℕ
-numberIn counts r c = getD counts (16 * r + c) 0
+numberIn numbers r c = getD numbers (16 * r + c) 0
+
+abbrev pub putNumber : List ℕ → ℕ → ℕ → ℕ → List ℕ
+putNumber numbers r c n = set numbers (16 * r + c) n
+
+-- SEVEN NUMBERS for each: the width (0 where there is no precinct), three along x, three along y
+abbrev pub placeIn : ℕ → ℕ → ℕ
+placeIn r c = 7 * (16 * r + c)
+
+-- three along an axis, from place i on
+unfoldable pub alongFrom : List ℕ → ℕ → Along
+alongFrom prep i = record { step = getD prep i 0; start = getD prep (i + 1) 0; first = getD prep (i + 2) 0 }
+
+unfoldable pub putAlong : List ℕ → ℕ → Along → List ℕ
+putAlong prep i a = set (set (set prep i (a .step)) (i + 1) (a .start)) (i + 2) (a .first)
+
+abbrev pub widthIn : List ℕ → ℕ → ℕ → ℕ
+widthIn prep r c = getD prep (placeIn r c) 0
+
+abbrev pub alongX : List ℕ → ℕ → ℕ → Along
+alongX prep r c = alongFrom prep (placeIn r c + 1)
+
+abbrev pub alongY : List ℕ → ℕ → ℕ → Along
+alongY prep r c = alongFrom prep (placeIn r c + 4)
+
+unfoldable pub putNumbers : List ℕ → ℕ → ℕ → ℕ → Along → Along → List ℕ
+putNumbers prep r c wide x y = putAlong (putAlong (set prep (placeIn r c) wide) (placeIn r c + 1) x) (placeIn r c + 4) y
 
 -- the tile's start where it lies inside a precinct, else 2^32 - 1, which no point is
 abbrev pub insideStart : Line → ℕ
 insideStart l = cond (whole l) 4294967295 (l .t0)
 
--- a coordinate meets a precinct's start, by these numbers
-abbrev pub hitBy : ℕ → ℕ → ℕ → Bool
-hitBy step start z = eqb (z % step) 0 || eqb z start
+-- what is prepared for a line
+abbrev pub alongOf : Line → Along
+alongOf l = record { step = step l; start = insideStart l; first = first l }
+
+-- a coordinate meets a precinct's start, by these numbers, and the column or row that is met there
+abbrev pub hitBy : Along → ℕ → Bool
+hitBy a z = eqb (z % a .step) 0 || eqb z (a .start)
+
+abbrev pub columnBy : Along → ℕ → ℕ
+columnBy a z = z / a .step - a .first
 
 -- what the prepared numbers of a resolution that has precincts stand for
 pub record Lines (s : Sheet) (prep : List ℕ) (r c : ℕ) : Type 0 where
-  pub step-x : field prep r c 1 ≡ stepX s c r
-  pub step-y : field prep r c 2 ≡ stepY s c r
-  pub start-x : field prep r c 3 ≡ insideStart (lineX s c r)
-  pub start-y : field prep r c 4 ≡ insideStart (lineY s c r)
-  pub first-x : field prep r c 5 ≡ first (lineX s c r)
-  pub first-y : field prep r c 6 ≡ first (lineY s c r)
+  pub x : alongX prep r c ≡ alongOf (lineX s c r)
+  pub y : alongY prep r c ≡ alongOf (lineY s c r)
 
 -- .. and of any resolution
 pub record Entry (s : Sheet) (prep : List ℕ) (r c : ℕ) : Type 0 where

@@ -8,7 +8,7 @@ use Rattle.laws.specs.Gather.{gather, gather-append}
 use Rattle.words.specs.Words.{putFour, over}
 use Rattle.words.specs.Laws.{over-four}
 use Rattle.packets.specs.Calls.{packetWords, recordsOf}
-use Rattle.packets.specs.declared.cursor.Position.{Position}
+use Rattle.types.specs.declared.cursor.Position.{Position}
 
 -- the four words of a packet, from byte at on; nothing where there is no room for all of them
 abbrev pub putPacket : List ℕ → ℕ → Position → List ℕ
@@ -38,7 +38,7 @@ over-packet ps old p h =
     let all : wordsOf ps ++ packetWords p ≡ wordsOf (ps ++ (p ∷ [])) = simp gather-append in
     rw (at, over-four (wordsOf ps) old (p .layno) (p .resno) (p .compno) (p .precno) (omega arith), all)
 
--- records laid over a buffer, and more behind them
+-- records laid over a buffer, and more after them
 pub over-packets : (ps qs : List Position) (old : List ℕ) → 16 * (length ps + length qs) ≤ length old
     → putPackets (over (recordsOf ps) old) (length ps) qs ≡ over (recordsOf (ps ++ qs)) old
 unfolding putPackets

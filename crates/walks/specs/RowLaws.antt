@@ -8,7 +8,7 @@ use native.Mathlib.Nat.{mul-comm}
 use native.Mathlib.Omega.{arith}
 use lib.Arith.{digits-lt}
 use lib.Dec.{ltb}
-use lib.ListN.{length, getD, set}
+use lib.ListN.{length}
 use lib.Seq.{getD-set-same, getD-set-other}
 use borrow.Author.Tests.{ltb-true}
 use Rattle.laws.specs.Cases.{le-or-lt, and-true, cond-some}
@@ -19,7 +19,7 @@ use Rattle.packets.specs.Grid.{stepX}
 use Rattle.packets.specs.InPlay.{playX}
 use Rattle.packets.specs.Met.{precincts-of, precincts-in, ordered-y}
 use Rattle.packets.specs.Positions.{met}
-use Rattle.walks.specs.Prepared.{field, widthIn, numberIn, hitBy, Entry, AtPoint, atRow, cellOf}
+use Rattle.walks.specs.Prepared.{numberIn, putNumber, widthIn, alongX, alongY, hitBy, columnBy, Entry, AtPoint, atRow, cellOf}
 use Rattle.walks.specs.Cells.{some, wide-of, hit-y, cell-no-column, column-from, number-small, cell-met}
 use Rattle.walks.specs.Nexts.{columns-out, columns-row, step-columns, play-x, play-y}
 use Rattle.walks.specs.Turns.{play-part}
@@ -41,7 +41,7 @@ row-in s r c y h = cond-some (playX s (atRow y) c r) _ h .0
 
 module _ (s : Sheet) (prep : List ℕ) (r c y : ℕ) (e : Entry s prep r c) (k : y < 4294967295) where
   -- then the prepared numbers show it
-  pub shown : playX s (atRow y) c r ≡ true → (0 < widthIn prep r c) × (hitBy (field prep r c 2) (field prep r c 4) y ≡ true)
+  pub shown : playX s (atRow y) c r ≡ true → (0 < widthIn prep r c) × (hitBy (alongY prep r c) y ≡ true)
   shown p =
       let b = and-true (ltb 0 (precincts s c r)) (hitAt (lineY s c r) y) p in
       let n : 0 < precincts s c r = ltb-true 0 _ (b .0) in
@@ -75,32 +75,32 @@ module _ (s : Sheet) (prep : List ℕ) (r c y : ℕ) (a : AtRow s prep r (r + 1)
   row-none z = rw (columns-out s prep r c row-entry y z)
 
   module _ (n : 0 < widthIn prep r c) where
-    pub row-step : 1 ≤ field prep r c 2
+    pub row-step : 1 ≤ alongY prep r c .step
     row-step = play-y s prep r (r + 1) c (c + 1) r c (a .play) (omega arith) (omega arith) (omega arith) (omega arith) n
 
     -- nor where it passes between their starts
-    pub row-missed : hitBy (field prep r c 2) (field prep r c 4) y ≡ false → 0 ≡ rowOf s r c y
+    pub row-missed : hitBy (alongY prep r c) y ≡ false → 0 ≡ rowOf s r c y
     unfolding rowOf
     row-missed z = rw (columns-row s prep r c row-entry y row-inside n ∙ z)
 
-    module _ (p : hitBy (field prep r c 2) (field prep r c 4) y ≡ true) where
+    module _ (p : hitBy (alongY prep r c) y ≡ true) where
       has : 0 < precincts s c r
       has = some s prep r c row-entry n
 
       hit : hitAt (lineY s c r) y ≡ true
       hit = sym (hit-y s prep r c row-entry has y row-inside) ∙ p
 
-      row-is : (columnOf (lineY s c r) y ≡ y / field prep r c 2 - field prep r c 6) × (field prep r c 6 ≤ y / field prep r c 2)
+      row-is : (columnOf (lineY s c r) y ≡ columnBy (alongY prep r c) y) × (alongY prep r c .first ≤ y / alongY prep r c .step)
       row-is =
           let l = row-entry .lines has in
-          rw (l .step-y, l .first-y) (hit-quotient (lineY s c r) (a .play .good .step-y c row-known) y (a .top) hit)
+          rw (l .y) (hit-quotient (lineY s c r) (a .play .good .step-y c row-known) y (a .top) hit)
 
       -- the first row is at most the quotient
-      pub row-from : field prep r c 6 ≤ y / field prep r c 2
+      pub row-from : alongY prep r c .first ≤ y / alongY prep r c .step
       row-from = row-is .1
 
       -- the number fits
-      pub row-small : (y / field prep r c 2 - field prep r c 6) * widthIn prep r c ≤ 65536
+      pub row-small : columnBy (alongY prep r c) y * widthIn prep r c ≤ 65536
       row-small =
           let m : precincts s c r ≡ width s c r * height s c r = precincts-of s c r (precincts-in s c r has) in
           let f = factors (width s c r) (height s c r) (rw m at has) in
@@ -109,7 +109,7 @@ module _ (s : Sheet) (prep : List ℕ) (r c y : ℕ) (a : AtRow s prep r (r + 1)
           rw (← row-is .0, wide-of s prep r c row-entry has) (omega (arith, digits-lt b (f .0), mul-comm (width s c r) (height s c r)))
 
       -- the first precinct that it meets
-      pub row-met : (y / field prep r c 2 - field prep r c 6) * widthIn prep r c + 1 ≡ rowOf s r c y
+      pub row-met : columnBy (alongY prep r c) y * widthIn prep r c + 1 ≡ rowOf s r c y
       unfolding rowOf
       row-met = rw (columns-row s prep r c row-entry y row-inside n ∙ p, row-is .0, wide-of s prep r c row-entry has)
 
@@ -123,13 +123,13 @@ module _ (s : Sheet) (prep : List ℕ) (first r c y : ℕ) (h : RowStart s prep 
     pub noted-in : playX s (atRow y) c r ≡ true
     noted-in = row-in s r c y (rw (h .noted) at n)
 
-    sure : (0 < widthIn prep r c) × (hitBy (field prep r c 2) (field prep r c 4) y ≡ true)
+    sure : (0 < widthIn prep r c) × (hitBy (alongY prep r c) y ≡ true)
     sure = shown s prep r c y (row-entry s prep r c y (h .at)) (row-inside s prep r c y (h .at)) noted-in
 
-    pub noted-columns : stepX s c r ≡ field prep r c 1
+    pub noted-columns : stepX s c r ≡ alongX prep r c .step
     noted-columns = step-columns s prep r c (row-entry s prep r c y (h .at)) (sure .0)
 
-    pub noted-step : 1 ≤ field prep r c 1
+    pub noted-step : 1 ≤ alongX prep r c .step
     noted-step =
         play-x s prep r (r + 1) c (c + 1) r c (h .at .play) (omega arith) (omega arith) (omega arith) (omega arith) (sure .0)
 
@@ -150,27 +150,27 @@ module _ (s : Sheet) (prep : List ℕ) (first r c x y : ℕ) (h : RowPoint s pre
       by false b d e = refl
 
   module _ (n : 0 < first) where
-    known : (0 < widthIn prep r c) × (hitBy (field prep r c 2) (field prep r c 4) y ≡ true)
+    known : (0 < widthIn prep r c) × (hitBy (alongY prep r c) y ≡ true)
     known = sure s prep first r c y (h .start) n
 
     -- nor where the column meets none
-    pub noted-missed : hitBy (field prep r c 1) (field prep r c 3) x ≡ false → Nothing ≡ cellOf s r c x y
+    pub noted-missed : hitBy (alongX prep r c) x ≡ false → Nothing ≡ cellOf s r c x y
     noted-missed z = cell-no-column s prep r c x y point (known .0) (known .1) z
 
-    module _ (q : hitBy (field prep r c 1) (field prep r c 3) x ≡ true) where
+    module _ (q : hitBy (alongX prep r c) x ≡ true) where
       -- the first column is at most the quotient
-      pub noted-from : field prep r c 5 ≤ x / field prep r c 1
+      pub noted-from : alongX prep r c .first ≤ x / alongX prep r c .step
       noted-from = column-from s prep r c x y point (known .0) (known .1) q
 
-      start-is : first - 1 ≡ (y / field prep r c 2 - field prep r c 6) * widthIn prep r c
+      start-is : first - 1 ≡ columnBy (alongY prep r c) y * widthIn prep r c
       start-is = omega (arith, h .start .noted, row-met s prep r c y (h .start .at) (known .0) (known .1))
 
       -- the number fits
-      pub noted-small : x / field prep r c 1 - field prep r c 5 + (first - 1) < 65536
+      pub noted-small : columnBy (alongX prep r c) x + (first - 1) < 65536
       noted-small = rw start-is (number-small s prep r c x y point (known .0) (known .1) q)
 
       -- the precinct that is met
-      pub noted-met : At (x / field prep r c 1 - field prep r c 5 + (first - 1)) ≡ cellOf s r c x y
+      pub noted-met : At (columnBy (alongX prep r c) x + (first - 1)) ≡ cellOf s r c x y
       noted-met = rw start-is (cell-met s prep r c x y point (known .0) (known .1) q)
 
 -- NOTING: what two loops have noted so far, of the components before c and of c itself before r
@@ -186,7 +186,7 @@ module _ (s : Sheet) (row : List ℕ) (r0 r1 c0 c y : ℕ) where
   note-enter h = (h, λ q i a b d e. omega arith)
 
   -- a turn notes one more
-  pub note-more : (r v : ℕ) → 16 * r + c < length row → c < 16 → v ≡ rowOf s r c y → Noted s row r0 r1 c0 c r y → Noted s (set row (16 * r + c) v) r0 r1 c0 c (r + 1) y
+  pub note-more : (r v : ℕ) → 16 * r + c < length row → c < 16 → v ≡ rowOf s r c y → Noted s row r0 r1 c0 c r y → Noted s (putNumber row r c v) r0 r1 c0 c (r + 1) y
   note-more r v room small e h = (
     λ q i a b d k. other q i (omega arith) ∙ h .0 q i a b d k,
     λ q i a b d k.
@@ -197,7 +197,7 @@ module _ (s : Sheet) (row : List ℕ) (r0 r1 c0 c y : ℕ) where
         (le-or-lt r q),
   )
     where
-      other : (q i : ℕ) → (16 * q + i ≡ 16 * r + c → ⊥) → getD (set row (16 * r + c) v) (16 * q + i) 0 ≡ getD row (16 * q + i) 0
+      other : (q i : ℕ) → (16 * q + i ≡ 16 * r + c → ⊥) → numberIn (putNumber row r c v) q i ≡ numberIn row q i
       other q i n = getD-set-other row (16 * r + c) (16 * q + i) v 0 n
 
   -- where the inner loop ends a component more is noted

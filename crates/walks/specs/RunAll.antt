@@ -10,7 +10,7 @@ use Rattle.laws.specs.Gather.{gather, gather-map}
 use Rattle.laws.specs.Gathered.{gathered-all}
 use Rattle.laws.specs.Runs.{unlisted, marked}
 use Rattle.laws.specs.AllRuns.{joined, unlisted-dedupe}
-use Rattle.laws.specs.Zeros.{zeros-most, unlisted-few}
+use Rattle.laws.specs.Frees.{frees-most, unlisted-few}
 use Rattle.words.specs.Words.{wordsBytes, over}
 use Rattle.packets.specs.Tile.{indexOf, strideR, strideL, needed}
 use Rattle.packets.specs.Grid.{changeOf}
@@ -18,13 +18,14 @@ use Rattle.packets.specs.Sound.{positionsFor}
 use Rattle.packets.specs.Calls.{listed, recordsOf}
 use Rattle.packets.specs.Meaning.{Sound, sound-means}
 use Rattle.packets.specs.Steps.{sound-length}
-use Rattle.packets.specs.declared.state.State.{State}
-use Rattle.packets.specs.declared.cursor.Position.{Position}
+use Rattle.packets.specs.Turns.{mark-needed}
+use Rattle.types.specs.declared.state.State.{State}
+use Rattle.types.specs.declared.cursor.Position.{Position}
 use Rattle.walks.specs.Counting.{AllCounted}
 use Rattle.walks.specs.Records.{putPackets, over-packets}
 use Rattle.walks.specs.Plan.{walkFor, goesOver, orderIn, Planned}
-use Rattle.walks.specs.Stepping.{strides-small}
-use Rattle.walks.specs.Running.{Total, totalOf, SomeRun, total-none, total-append, mark-needed}
+use Rattle.walks.specs.Taking.{strides-small}
+use Rattle.walks.specs.Running.{Total, totalOf, SomeRun, total-none, total-append}
 use Rattle.walks.specs.declared.plan.Plan.{Plan}
 
 -- the positions of the progressions from number k on, in turn
@@ -58,7 +59,7 @@ module _ (st : State) (table marks : List ℕ) (d : Sound st table marks) where
   all-few =
       let h = unlisted-few (indexOf st) (needed st) marks (fromOn st table 0)
       (λ p i. let s = marks-needed 0 p i in (s, omega (arith, s, d .marks-long))) in
-      omega (arith, h, zeros-most (needed st) marks)
+      omega (arith, h, frees-most (needed st) marks)
 
   pub count-few : (output : List ℕ) → totalOf (indexOf st) marks output 0 (fromOn st table 0) .count ≤ 65536
   unfolding totalOf
@@ -103,7 +104,7 @@ module _ {st : State} {table marks₀ output₀ : List ℕ} {n₀ k₀ : ℕ} wh
         sym (w .same ∙ ap (totalOf (indexOf st) marks output n) (from-end st table k h) ∙ total-none (indexOf st) marks output n)
 
     module _ (less : k < st .progressions) where
-      -- what is left is a progression, and what is behind it
+      -- what is left is a progression, and what comes after it
       one-more : totalOf (indexOf st) marks output n (fromOn st table k)
           ≡ (let t = totalOf (indexOf st) marks output n (positionsFor st table k) in totalOf (indexOf st) (t .marks) (t .output) (t .count) (fromOn st table (k + 1)))
       one-more =
@@ -123,15 +124,15 @@ module _ {st : State} {table marks₀ output₀ : List ℕ} {n₀ k₀ : ℕ} wh
 
       module _ {counts : List ℕ} (d : RestIn st table counts marks₀ n₀ k₀) {plan : Plan}
           (made : (plan .order ≡ orderIn st (changeOf st k)) × (plan .walk ≡ walkFor st (goesOver st (changeOf st k)))) where
-        pub plans : Planned st table k counts plan marks
-        plans = let a = rest-in d in record { sound = a .sound; counted = a .counted; known = less; order = made .0; walk = made .1 }
+        pub plans : Planned st table k plan marks
+        plans = record { sound = rest-in d .sound; known = less; order = made .0; walk = made .1 }
 
         pub run-few : n + length (unlisted (indexOf st) marks (positionsFor st table k)) ≤ 65536
         unfolding totalOf
         run-few = let e = ap (λ (t : Total). t .count) one-more in omega (arith, e, rest-in d .few)
 
         pub all-run : SomeRun counts plan marks n
-        all-run = (st, (table, (k, plans, run-few)))
+        all-run = (st, (table, (k, plans, rest-in d .counted, run-few)))
 
 -- WHAT ALL THE RUNS LEAVE, from marks that are 0 where they are needed and an output with room: the whole run's list, its marks and its records
 pub all-listed : (st : State) (table marks output : List ℕ) → Sound st table marks → ((i : ℕ) → i < needed st → getD marks i 0 ≡ 0) → 16 * needed st ≤ length output

@@ -1,23 +1,18 @@
 -- A run: how many packets there are, the marks and the output, once what is left has been listed. Assumes nothing.
 use mathlib.Core.Path.{_≡_, sym, ap, _∙_}
-use mathlib.Core.List.{List, [], _∷_, _++_, List·Memᴰ as In}
+use mathlib.Core.List.{List, [], _∷_, _++_}
 use native.Mathlib.Omega.{arith}
-use Prim.Native.Nat.{ℕ, _+_, _*_, _≤_, _<_}
+use Prim.Native.Nat.{ℕ, _+_, _*_, _≤_}
 use lib.ListN.{length, length-append}
 use Rattle.laws.specs.Runs.{unlisted, marked}
 use Rattle.laws.specs.Listing.{unlisted-append, marked-append}
-use Rattle.packets.specs.Tile.{needed, indexOf}
-use Rattle.packets.specs.Table.{sheetAt}
-use Rattle.packets.specs.Orders.{rangeOf, orderOf}
-use Rattle.packets.specs.Grid.{changeOf}
+use Rattle.packets.specs.Tile.{indexOf}
 use Rattle.packets.specs.Sound.{positionsFor}
-use Rattle.packets.specs.Meaning.{Sound, sound-means, sound-good}
-use Rattle.packets.specs.Once.{index-small}
-use Rattle.packets.specs.Run.{layers-within}
-use Rattle.packets.specs.declared.state.State.{State}
-use Rattle.packets.specs.declared.cursor.Position.{Position}
+use Rattle.types.specs.declared.state.State.{State}
+use Rattle.types.specs.declared.cursor.Position.{Position}
 use Rattle.walks.specs.Records.{putPacket, putPackets}
 use Rattle.walks.specs.FromSound.{AllFilled}
+use Rattle.walks.specs.Counting.{AllCounted}
 use Rattle.walks.specs.Plan.{Planned}
 use Rattle.walks.specs.declared.plan.Plan.{Plan}
 
@@ -35,15 +30,15 @@ leaving ix m o n u = record { count = n + length u; marks = marked ix m u; outpu
 unfoldable pub totalOf : (Position → ℕ) → List ℕ → List ℕ → ℕ → List Position → Total
 totalOf ix m o n left = leaving ix m o n (unlisted ix m left)
 
--- some progression is planned, and its packets are few
+-- some progression is planned, its precincts are counted, and its packets are few
 abbrev pub SomeRun : List ℕ → Plan → List ℕ → ℕ → Type 0
 SomeRun counts plan marks n =
-    (st : State) × ((table : List ℕ) × ((k : ℕ) × Planned st table k counts plan marks × (n + length (unlisted (indexOf st) marks (positionsFor st table k)) ≤ 65536)))
+    (st : State) × ((table : List ℕ) × ((k : ℕ) × Planned st table k plan marks × AllCounted st table counts × (n + length (unlisted (indexOf st) marks (positionsFor st table k)) ≤ 65536)))
 
 -- .. and its numbers are prepared
 abbrev pub SomeFilledRun : List ℕ → List ℕ → Plan → List ℕ → ℕ → Type 0
 SomeFilledRun counts prep plan marks n =
-    (st : State) × ((table : List ℕ) × ((k : ℕ) × Planned st table k counts plan marks × AllFilled st table prep × (n + length (unlisted (indexOf st) marks (positionsFor st table k)) ≤ 65536)))
+    (st : State) × ((table : List ℕ) × ((k : ℕ) × Planned st table k plan marks × AllCounted st table counts × AllFilled st table prep × (n + length (unlisted (indexOf st) marks (positionsFor st table k)) ≤ 65536)))
 
 -- records written in two goes
 puts-append : (o : List ℕ) (n : ℕ) (u v : List Position) → putPackets o n (u ++ v) ≡ putPackets (putPackets o n u) (n + length u) v
@@ -68,8 +63,3 @@ module _ (ix : Position → ℕ) (m o : List ℕ) (n : ℕ) where
       let count : n + length (u ++ v) ≡ n + length u + length v = let l : length (u ++ v) ≡ length u + length v = length-append u v in omega arith in
       ap (leaving ix m o n) (unlisted-append ix m a b)
       ∙ (λ i. record { count = count i; marks = marked-append ix m u v i; output = puts-append o n u v i })
-
--- the mark of a position of a progression is one of those needed
-pub mark-needed : (st : State) (table marks : List ℕ) → Sound st table marks → (k : ℕ) (p : Position) → In p (positionsFor st table k) → indexOf st p < needed st
-mark-needed st table marks d k p i =
-    index-small (sheetAt st table) (sound-good st table marks (sound-means st table marks .1 d)) (rangeOf st (changeOf st k)) (orderOf (changeOf st k .prg)) p i (layers-within st (changeOf st k))

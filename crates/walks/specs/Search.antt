@@ -1,26 +1,26 @@
 -- The search of a progression: the walk of its order, from where its cursor stands. Assumes nothing.
 use mathlib.Core.Path.{_≡_, refl, sym, ap, _∙_}
-use mathlib.Core.Bool.{true, false, true≢false}
+use mathlib.Core.Bool.{Bool, true, false, cond, true≢false}
 use native.Mathlib.Omega.{arith}
 use mathlib.Core.List.{List, [], _∷_, List·Memᴰ as In}
-use Prim.Native.Nat.{ℕ, zero, suc, _+_, _≤_, _<_}
+use Prim.Native.Nat.{ℕ, _+_, _≤_, _<_}
 use Rattle.laws.specs.Nest.{resumed}
-use Rattle.laws.specs.Runs.{Ended, seek}
-use Rattle.packets.specs.State.{origin}
+use Rattle.types.specs.State.{origin}
 use Rattle.packets.specs.Tile.{Sheet, indexOf}
-use Rattle.packets.specs.Orders.{Order, lrcp, rlcp, rpcl, pcrl, cprl, other, Range}
+use Rattle.types.specs.Orders.{byPoints}
+use Rattle.types.specs.declared.order.Order.{Order}
+use Rattle.types.specs.declared.order.Order.the-variants.{Lrcp as lrcp, Rlcp as rlcp, Rpcl as rpcl, Pcrl as pcrl, Cprl as cprl, NoPositions as other}
+use Rattle.types.specs.declared.order.Range.{Range}
 use Rattle.packets.specs.Positions.{loopsOf, hasPositions, positionsIn, numberAt}
 use Rattle.packets.specs.Calls.{after}
-use Rattle.packets.specs.Inside.{InRange, in-range, in-met, byPoints}
+use Rattle.packets.specs.Good.{Good}
+use Rattle.packets.specs.Inside.{InRange, in-range, in-met}
 use Rattle.packets.specs.Met.{MetAt}
-use Rattle.packets.specs.Meaning.{Admitted}
 use Rattle.packets.specs.Once.{index-small}
-use Rattle.packets.specs.Resume.{freshStarts, startsAt, resume-fresh, resume-behind}
-use Rattle.packets.specs.declared.cursor.Position.{Position}
-use Rattle.packets.specs.declared.cursor.Place.{Place}
-use Rattle.packets.specs.declared.cursor.Place.the-variants as place
-use Rattle.sheets.specs.Ranges.{orderNumber}
-use Rattle.walks.specs.Walk.{Ranged, Counted, Ready}
+use Rattle.packets.specs.Resume.{resume-fresh, resume-behind}
+use Rattle.types.specs.declared.cursor.Position.{Position}
+use Rattle.types.specs.declared.cursor.Place.the-variants as place
+use Rattle.walks.specs.Walk.{Ranged, Counted, SomeCounted}
 use Rattle.walks.specs.declared.walk.Walk.{Walk}
 
 -- where the loops of an order start whose first position is p: precincts are counted in orders 0 and 1, and met at a point in the others
@@ -32,9 +32,17 @@ startsFrom s pcrl q = (λ p. q .y) ∷ (λ p. q .x) ∷ (λ p. q .compno) ∷ (�
 startsFrom s cprl q = (λ p. q .compno) ∷ (λ p. q .y) ∷ (λ p. q .x) ∷ (λ p. q .resno) ∷ numberAt s ∷ (λ p. q .layno) ∷ []
 startsFrom s other q = []
 
--- what the loops of an order have left from p on
+-- what the loops of an order have left from p on; nothing where there is no order
+abbrev resumedFrom : Sheet → Range → Order → Position → List Position
+resumedFrom s g o p = resumed (loopsOf s g o) (startsFrom s o p) origin
+
 abbrev pub leftFrom : Sheet → Range → Order → Position → List Position
-leftFrom s g o p = resumed (loopsOf s g o) (startsFrom s o p) origin
+leftFrom s g lrcp p = resumedFrom s g lrcp p
+leftFrom s g rlcp p = resumedFrom s g rlcp p
+leftFrom s g rpcl p = resumedFrom s g rpcl p
+leftFrom s g pcrl p = resumedFrom s g pcrl p
+leftFrom s g cprl p = resumedFrom s g cprl p
+leftFrom s g other p = []
 
 -- the first position of a walk, and the one to be tried after p
 abbrev pub firstOf : Walk → Position
@@ -47,204 +55,90 @@ abbrev pub nextLayer : Position → Position
 nextLayer p = record { layno = p .layno + 1; resno = p .resno; compno = p .compno; precno = p .precno; x = p .x; y = p .y }
 
 abbrev pub nextTry : Order → Position → Position
-nextTry lrcp p = nextPrecinct p
-nextTry rlcp p = nextPrecinct p
-nextTry rpcl p = nextLayer p
-nextTry pcrl p = nextLayer p
-nextTry cprl p = nextLayer p
-nextTry other p = p
+nextTry o p = cond (byPoints o) (nextLayer p) (nextPrecinct p)
 
--- a start that a walk can take: in its ranges, and in orders 2 to 4 at or behind the tile's start
-abbrev pub FromPoint : Order → Walk → Position → Type 0
-FromPoint lrcp w p = Unit {0}
-FromPoint rlcp w p = Unit {0}
-FromPoint rpcl w p = (w .ty0 ≤ p .y) × (w .tx0 ≤ p .x)
-FromPoint pcrl w p = (w .ty0 ≤ p .y) × (w .tx0 ≤ p .x)
-FromPoint cprl w p = (w .ty0 ≤ p .y) × (w .tx0 ≤ p .x)
-FromPoint other w p = Unit {0}
-
+-- a start that a walk can take: in its ranges, and in the orders by points in the tile, from its start on
 pub record Startable (o : Order) (w : Walk) (p : Position) : Type 0 where
   pub resolution : w .resno0 ≤ p .resno
   pub component : w .compno0 ≤ p .compno
-  pub point : FromPoint o w p
+  pub point : byPoints o ≡ true → (w .ty0 ≤ p .y) × (w .tx0 ≤ p .x)
 
--- the order with a number
-abbrev pub orderBy : ℕ → Order
-orderBy zero = lrcp
-orderBy (suc zero) = rlcp
-orderBy (suc (suc zero)) = rpcl
-orderBy (suc (suc (suc zero))) = pcrl
-orderBy (suc (suc (suc (suc zero)))) = cprl
-orderBy (suc (suc (suc (suc (suc n))))) = other
+pub first-startable : (w : Walk) (o : Order) → Startable o w (firstOf w)
+first-startable w o = record { resolution = omega arith; component = omega arith; point = λ b. (omega arith, omega arith) }
 
-by-number : (o : Order) → o ≡ orderBy (orderNumber o)
-by-number lrcp = refl
-by-number rlcp = refl
-by-number rpcl = refl
-by-number pcrl = refl
-by-number cprl = refl
-by-number other = refl
-
--- an order is known by its number
-pub known-by : (o : Order) (n k : ℕ) → orderNumber o ≡ n → n ≡ k → o ≡ orderBy k
-known-by o n k e h = by-number o ∙ ap orderBy (e ∙ h)
-
-pub points-by : (o : Order) (n : ℕ) → orderNumber o ≡ n → 2 ≤ n → n < 5 → byPoints o ≡ true
-points-by lrcp n e h k = absurd (let z : ⊥ = omega arith in z)
-points-by rlcp n e h k = absurd (let z : ⊥ = omega arith in z)
-points-by rpcl n e h k = refl
-points-by pcrl n e h k = refl
-points-by cprl n e h k = refl
-points-by other n e h k = absurd (let z : ⊥ = omega arith in z)
-
-pub nothing-by : (s : Sheet) (g : Range) (o : Order) (n : ℕ) → orderNumber o ≡ n → 5 ≤ n → hasPositions s g o ≡ true → ⊥
-nothing-by s g lrcp n e h k = omega arith
-nothing-by s g rlcp n e h k = omega arith
-nothing-by s g rpcl n e h k = omega arith
-nothing-by s g pcrl n e h k = omega arith
-nothing-by s g cprl n e h k = omega arith
-nothing-by s g other n e h k = true≢false (sym k)
-
-pub start-point : (o : Order) (w : Walk) (p : Position) → byPoints o ≡ true → Startable o w p → (w .ty0 ≤ p .y) × (w .tx0 ≤ p .x)
-start-point lrcp w p b h = absurd (true≢false (sym b))
-start-point rlcp w p b h = absurd (true≢false (sym b))
-start-point rpcl w p b h = h .point
-start-point pcrl w p b h = h .point
-start-point cprl w p b h = h .point
-start-point other w p b h = absurd (true≢false (sym b))
-
--- what is to be tried next, by the order's number
-module _ (o : Order) (p : Position) (n : ℕ) (e : orderNumber o ≡ n) where
-  pub try-none : n ≡ 5 → p ≡ nextTry o p
-  try-none h = ap (λ q. nextTry q p) (sym (known-by o n 5 e h))
-
-  pub try-precinct : n < 2 → nextPrecinct p ≡ nextTry o p
-  try-precinct h = of o e
-    where
-      of : (o : Order) → orderNumber o ≡ n → nextPrecinct p ≡ nextTry o p
-      of lrcp e = refl
-      of rlcp e = refl
-      of rpcl e = absurd (let z : ⊥ = omega arith in z)
-      of pcrl e = absurd (let z : ⊥ = omega arith in z)
-      of cprl e = absurd (let z : ⊥ = omega arith in z)
-      of other e = absurd (let z : ⊥ = omega arith in z)
-
-  pub try-layer : 2 ≤ n → (n ≡ 5 → ⊥) → nextLayer p ≡ nextTry o p
-  try-layer h k = of o e
-    where
-      of : (o : Order) → orderNumber o ≡ n → nextLayer p ≡ nextTry o p
-      of lrcp e = absurd (let z : ⊥ = omega arith in z)
-      of rlcp e = absurd (let z : ⊥ = omega arith in z)
-      of rpcl e = refl
-      of pcrl e = refl
-      of cprl e = refl
-      of other e = absurd (k (sym e))
-
--- a progression with positions, of the order with this number
-pub record Ordered (s : Sheet) (g : Range) (counts : List ℕ) (w : Walk) (marks : List ℕ) (n : ℕ) (o : Order) : Type 0 where
-  pub counted : Counted s g counts w marks
-  pub number : orderNumber o ≡ n
+-- a walk of an order that has positions
+pub record Ordered (s : Sheet) (g : Range) (w : Walk) (marks : List ℕ) (o : Order) : Type 0 where
+  pub ranged : Ranged s g w marks
+  pub good : Good s
   pub has : hasPositions s g o ≡ true
 
--- .. that can be searched: where its order is by points, its ranges are prepared
-pub record Searched (s : Sheet) (g : Range) (counts prep : List ℕ) (w : Walk) (marks : List ℕ) (n : ℕ) (o : Order) : Type 0 where
-  pub ordered : Ordered s g counts w marks n o
-  pub ready : byPoints o ≡ true → Ready s g prep w marks
+-- an order that is known is one
+abbrev isOrder : Order → Bool
+isOrder lrcp = true
+isOrder rlcp = true
+isOrder rpcl = true
+isOrder pcrl = true
+isOrder cprl = true
+isOrder other = false
 
-abbrev pub SomeStart : List ℕ → List ℕ → Walk → List ℕ → ℕ → Position → Type 0
-SomeStart counts prep w marks n p = (s : Sheet) × ((g : Range) × ((o : Order) × Searched s g counts prep w marks n o × Startable o w p))
+pub some : {x o : Order} → x ≡ o → isOrder o ≡ true → x ≡ other → ⊥
+some e t z = true≢false (sym t ∙ ap isOrder (sym e ∙ z))
 
-abbrev pub SomePlace : List ℕ → List ℕ → Walk → List ℕ → ℕ → Place → Type 0
-SomePlace counts prep w marks n q = (s : Sheet) × ((g : Range) × ((o : Order) × Searched s g counts prep w marks n o × Admitted q (positionsIn s g o)))
+-- what a search by counts asks for, unless there is no order
+abbrev pub CountedFor : Order → Sheet → Range → List ℕ → Walk → List ℕ → Type 0
+CountedFor o s g counts w marks = (o ≡ other → ⊥) → Counted s g counts w marks
 
-module _ (s : Sheet) (g : Range) (counts : List ℕ) (w : Walk) (marks : List ℕ) (n : ℕ) (o : Order) (d : Ordered s g counts w marks n o) where
-  first-starts : (o : Order) → startsFrom s o (firstOf w) ≡ freshStarts s g o
-  first-starts lrcp = let q = d .counted .ranged in rw (q .resno0, q .compno0)
-  first-starts rlcp = let q = d .counted .ranged in rw (q .resno0, q .compno0)
-  first-starts rpcl = let q = d .counted .ranged in rw (q .resno0, q .compno0, q .tx0, q .ty0)
-  first-starts pcrl = let q = d .counted .ranged in rw (q .resno0, q .compno0, q .tx0, q .ty0)
-  first-starts cprl = let q = d .counted .ranged in rw (q .resno0, q .compno0, q .tx0, q .ty0)
-  first-starts other = refl
+abbrev pub SomeCountedFor : Order → List ℕ → Walk → List ℕ → Type 0
+SomeCountedFor o counts w marks = (o ≡ other → ⊥) → SomeCounted counts w marks
 
+module _ (s : Sheet) (g : Range) (w : Walk) (marks : List ℕ) where
   -- a fresh cursor: everything is left
-  pub from-first : leftFrom s g o (firstOf w) ≡ positionsIn s g o
-  from-first = ap (λ l. resumed (loopsOf s g o) l origin) (first-starts o) ∙ sym (resume-fresh s g o (d .has))
+  pub from-first : (o : Order) → Ordered s g w marks o → leftFrom s g o (firstOf w) ≡ positionsIn s g o
+  from-first lrcp d = let q = d .ranged in ap (λ l. resumed (loopsOf s g lrcp) l origin) (rw (q .resno0, q .compno0)) ∙ sym (resume-fresh s g lrcp (d .has))
+  from-first rlcp d = let q = d .ranged in ap (λ l. resumed (loopsOf s g rlcp) l origin) (rw (q .resno0, q .compno0)) ∙ sym (resume-fresh s g rlcp (d .has))
+  from-first rpcl d = let q = d .ranged in ap (λ l. resumed (loopsOf s g rpcl) l origin) (rw (q .resno0, q .compno0, q .tx0, q .ty0)) ∙ sym (resume-fresh s g rpcl (d .has))
+  from-first pcrl d = let q = d .ranged in ap (λ l. resumed (loopsOf s g pcrl) l origin) (rw (q .resno0, q .compno0, q .tx0, q .ty0)) ∙ sym (resume-fresh s g pcrl (d .has))
+  from-first cprl d = let q = d .ranged in ap (λ l. resumed (loopsOf s g cprl) l origin) (rw (q .resno0, q .compno0, q .tx0, q .ty0)) ∙ sym (resume-fresh s g cprl (d .has))
+  from-first other d = absurd (true≢false (sym (d .has)))
 
-  next-starts : (o : Order) (p : Position) → startsFrom s o (nextTry o p) ≡ startsAt s o p
-  next-starts lrcp p = refl
-  next-starts rlcp p = refl
-  next-starts rpcl p = refl
-  next-starts pcrl p = refl
-  next-starts cprl p = refl
-  next-starts other p = refl
+  -- a cursor at p: what is after it is left
+  pub from-next : (o : Order) → hasPositions s g o ≡ true → (p : Position) → In p (positionsIn s g o) → leftFrom s g o (nextTry o p) ≡ after (place.At p) (positionsIn s g o)
+  from-next lrcp h p i = sym (resume-behind s g lrcp p i)
+  from-next rlcp h p i = sym (resume-behind s g rlcp p i)
+  from-next rpcl h p i = sym (resume-behind s g rpcl p i)
+  from-next pcrl h p i = sym (resume-behind s g pcrl p i)
+  from-next cprl h p i = sym (resume-behind s g cprl p i)
+  from-next other h p i = absurd (true≢false (sym h))
 
-  -- a cursor at p: what is behind it is left
-  pub from-next : (p : Position) → In p (positionsIn s g o) → leftFrom s g o (nextTry o p) ≡ after (place.At p) (positionsIn s g o)
-  from-next p i = ap (λ l. resumed (loopsOf s g o) l origin) (next-starts o p) ∙ sym (resume-behind s g o p i)
+  module _ (o : Order) (d : Ordered s g w marks o) (p : Position) (i : In p (positionsIn s g o)) where
+    pub next-startable : Startable o w (nextTry o p)
+    next-startable = of (byPoints o) refl
+      where
+        q : Ranged s g w marks
+        q = d .ranged
 
-  pub first-startable : Startable o w (firstOf w)
-  first-startable = record { resolution = omega arith; component = omega arith; point = at o }
-    where
-      at : (o : Order) → FromPoint o w (firstOf w)
-      at lrcp = tt
-      at rlcp = tt
-      at rpcl = (omega arith, omega arith)
-      at pcrl = (omega arith, omega arith)
-      at cprl = (omega arith, omega arith)
-      at other = tt
+        r : InRange g p
+        r = in-range s g o p i
 
-  pub next-startable : (p : Position) → In p (positionsIn s g o) → Startable o w (nextTry o p)
-  next-startable p i = starts o i
-    where
-      q : Ranged s g w marks
-      q = d .counted .ranged
+        of : (t : Bool) → byPoints o ≡ t → Startable o w (cond t (nextLayer p) (nextPrecinct p))
+        of true e =
+            let m : MetAt s p = in-met s g o e p i in
+            record {
+              resolution = omega (arith, q .resno0, r .resolution-from);
+              component = omega (arith, q .compno0, r .component-from);
+              point = λ b. (omega (arith, q .ty0, m .top), omega (arith, q .tx0, m .left));
+            }
+        of false e =
+            record {
+              resolution = omega (arith, q .resno0, r .resolution-from);
+              component = omega (arith, q .compno0, r .component-from);
+              point = λ b. absurd (true≢false (sym b ∙ e));
+            }
 
-      still : (o : Order) → In p (positionsIn s g o) → (w .resno0 ≤ p .resno) × (w .compno0 ≤ p .compno)
-      still o i =
-          let t : InRange g p = in-range s g o p i in
-          (omega (arith, q .resno0, t .resolution-from), omega (arith, q .compno0, t .component-from))
-
-      point : (o : Order) → byPoints o ≡ true → In p (positionsIn s g o) → (w .ty0 ≤ p .y) × (w .tx0 ≤ p .x)
-      point o b i =
-          let t : MetAt s p = in-met s g o b p i in
-          (omega (arith, q .ty0, t .top), omega (arith, q .tx0, t .left))
-
-      starts : (o : Order) → In p (positionsIn s g o) → Startable o w (nextTry o p)
-      starts lrcp i = record { resolution = still lrcp i .0; component = still lrcp i .1; point = tt }
-      starts rlcp i = record { resolution = still rlcp i .0; component = still rlcp i .1; point = tt }
-      starts rpcl i = record { resolution = still rpcl i .0; component = still rpcl i .1; point = point rpcl refl i }
-      starts pcrl i = record { resolution = still pcrl i .0; component = still pcrl i .1; point = point pcrl refl i }
-      starts cprl i = record { resolution = still cprl i .0; component = still cprl i .1; point = point cprl refl i }
-      starts other i = record { resolution = still other i .0; component = still other i .1; point = tt }
-
-  -- from each place: where the walk starts, and that it finds what is behind the place
-  module _ (q : Place) where
-    pub fresh-startable : (p : Position) → p ≡ firstOf w → Startable o w p
-    fresh-startable p e = rw e first-startable
-
-    pub fresh-found : (p : Position) → q ≡ place.Fresh → p ≡ firstOf w
-        → seek (indexOf (s .st)) marks (leftFrom s g o p) ≡ seek (indexOf (s .st)) marks (after q (positionsIn s g o))
-    fresh-found p e k = rw (e, k, from-first)
-
-    pub ended-found : q ≡ place.Ended → Ended ≡ seek (indexOf (s .st)) marks (after q (positionsIn s g o))
-    unfolding seek
-    ended-found e = rw e
-
-    module _ (p : Position) (e : q ≡ place.At p) (h : Admitted q (positionsIn s g o)) where
-      stands : In p (positionsIn s g o)
-      stands = rw e at h
-
-      pub at-startable : (r : Position) → r ≡ nextTry o p → Startable o w r
-      at-startable r k = rw k (next-startable p stands)
-
-      pub at-found : (r : Position) → r ≡ nextTry o p
-          → seek (indexOf (s .st)) marks (leftFrom s g o r) ≡ seek (indexOf (s .st)) marks (after q (positionsIn s g o))
-      at-found r k = rw (e, k, from-next p stands)
-
-      -- the next precinct and the next layer have a number
-      pub at-small : w .layno1 ≤ 4294967295 → (p .precno < 4294967295) × (p .layno < 4294967295)
-      unfolding indexOf
-      at-small k =
-          let m = d .counted .ranged in
-          let i = index-small s (d .counted .good) g o p stands (m .layers) in
-          (omega (arith, i, m .few), omega (arith, in-range s g o p stands .layer, m .layno1))
+    -- the next precinct and the next layer have a number
+    pub next-small : w .layno1 ≤ 4294967295 → (p .precno < 4294967295) × (p .layno < 4294967295)
+    unfolding indexOf
+    next-small k =
+        let m = d .ranged in
+        let t = index-small s (d .good) g o p i (m .layers) in
+        (omega (arith, t, m .few), omega (arith, in-range s g o p i .layer, m .layno1))

@@ -5,12 +5,13 @@ use mathlib.Core.List.{List}
 use Prim.Native.Nat.{ℕ, _+_, _≤_, _<_}
 use native.Mathlib.Omega.{arith}
 use Rattle.packets.specs.Tile.{Sheet, precincts}
-use Rattle.packets.specs.Orders.{Range}
+use Rattle.types.specs.declared.order.Range.{Range}
 use Rattle.packets.specs.Positions.{met, numberAt}
 use Rattle.packets.specs.Met.{MetAt, met-small, precincts-in}
 use Rattle.packets.specs.Inside.{Inside}
-use Rattle.packets.specs.declared.cursor.Position.{Position}
+use Rattle.types.specs.declared.cursor.Position.{Position}
 use Rattle.walks.specs.Prepared.{InPlay, AtPoint, pointOf, cellOf}
+use Rattle.walks.specs.InRow.{AtRow}
 use Rattle.walks.specs.Walk.{Ready}
 use Rattle.walks.specs.declared.cell.Cell.the-variants.{At, Nothing}
 use Rattle.walks.specs.declared.walk.Walk.{Walk}
@@ -50,19 +51,16 @@ play-part s prep r0 r1 c0 c1 a b d e t h i j k =
       ends-y = t .ends-y;
     }
 
--- A WALK THAT IS READY stands inside the tile, and inside its ranges
-pub record InTile (w : Walk) (x y : ℕ) : Type 0 where
-  pub left : w .tx0 ≤ x
-  pub right : x < w .tx1
-  pub top : w .ty0 ≤ y
-  pub bottom : y < w .ty1
-
+-- A WALK THAT IS READY stands inside its ranges and the tile
 pub record Stands (w : Walk) (r c x y : ℕ) : Type 0 where
-  pub tile : InTile w x y
   pub res-from : w .resno0 ≤ r
   pub res-to : r < w .resno1
   pub comp-from : w .compno0 ≤ c
   pub comp-to : c < w .compno1
+  pub left : w .tx0 ≤ x
+  pub right : x < w .tx1
+  pub top : w .ty0 ≤ y
+  pub bottom : y < w .ty1
 
 module _ (s : Sheet) (g : Range) (prep : List ℕ) (w : Walk) (marks : List ℕ) (ready : Ready s g prep w marks) where
   -- what is in play for resolutions a to b of components d to e
@@ -72,15 +70,25 @@ module _ (s : Sheet) (g : Range) (prep : List ℕ) (w : Walk) (marks : List ℕ)
       play-part s prep (g .resno0) (g .resno1) (g .compno0) (g .compno1) a b d e (ready .play)
       (rw (← (q .resno0)) h) (rw (← (q .resno1)) i) (rw (← (q .compno0)) j) (rw (← (q .compno1)) k)
 
+  -- a row of it, and a point
+  pub at-row : (y : ℕ) → w .ty0 ≤ y → y < w .ty1 → AtRow s prep (w .resno0) (w .resno1) (w .compno0) (w .compno1) y
+  at-row y top bottom =
+      let q = ready .ranged in
+      record {
+        play = in-play (w .resno0) (w .resno1) (w .compno0) (w .compno1) (omega arith) (omega arith) (omega arith) (omega arith);
+        top = rw (← (q .ty0)) top;
+        bottom = rw (← (q .ty1)) bottom;
+      }
+
   pub at-point : (r c x y : ℕ) → Stands w r c x y → AtPoint s prep r c x y
   at-point r c x y t =
       let q = ready .ranged in
       record {
         play = in-play r (r + 1) c (c + 1) (t .res-from) (omega (arith, t .res-to)) (t .comp-from) (omega (arith, t .comp-to));
-        left = rw (← (q .tx0)) (t .tile .left);
-        right = rw (← (q .tx1)) (t .tile .right);
-        top = rw (← (q .ty0)) (t .tile .top);
-        bottom = rw (← (q .ty1)) (t .tile .bottom);
+        left = rw (← (q .tx0)) (t .left);
+        right = rw (← (q .tx1)) (t .right);
+        top = rw (← (q .ty0)) (t .top);
+        bottom = rw (← (q .ty1)) (t .bottom);
       }
 
   -- a packet that is met is one of the sheet's

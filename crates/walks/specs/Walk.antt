@@ -5,9 +5,9 @@ use mathlib.Core.List.{List}
 use lib.ListN.{length}
 use Rattle.laws.specs.Runs.{Answer, Packet, Ended}
 use Rattle.packets.specs.Tile.{Sheet, strideC, strideR, strideL, needed, precincts}
-use Rattle.packets.specs.Orders.{Range}
+use Rattle.types.specs.declared.order.Range.{Range}
 use Rattle.packets.specs.Good.{Good}
-use Rattle.packets.specs.declared.cursor.Position.{Position}
+use Rattle.types.specs.declared.cursor.Position.{Position}
 use Rattle.walks.specs.Prepared.{InPlay, numberIn}
 use Rattle.walks.specs.declared.walk.Walk.{Walk}
 use Rattle.walks.specs.declared.walk.Found.{Found}

@@ -1,20 +1,26 @@
-// CPRL: component, y, x, resolution, layer (T.800 B.12.1.5): one component after the other, each in the order PCRL.
-use crate::pcrl::pcrl;
+// CPRL: component, y, x, resolution, layer (T.800 B.12.1.5).
+use crate::cell::Cell;
+use crate::cell::cell_at;
+use crate::next::next_column;
+use crate::next::next_row;
+use crate::prepared::Along;
 use crate::walk::Found;
 use crate::walk::Walk;
-use crate::walk::part;
+use crate::walk::index;
+use types::cursor::Position;
+use types::mark::is_free;
 ghost use mathlib.Core.Path.{_≡_};
 ghost use Prim.Native.Nat.{_≤_};
 ghost use Rattle.laws.specs.Runs.{seek};
 ghost use Rattle.packets.specs.Tile.{Sheet, indexOf};
-ghost use Rattle.packets.specs.Orders.{Range};
+ghost use Rattle.types.specs.declared.order.Range.{Range};
 ghost use Rattle.walks.specs.Walk.{answerOf, Ready, SomeReady};
 ghost use Rattle.walks.specs.Cprl.{entry};
 
 // The first free position from (c, y, x, r, l) on.
 pub(crate) fn cprl(
     marks: &[u8],
-    prep: &[u32; 3696],
+    prep: &[u32; Along::MAX_NUMBERS],
     w: Walk,
     c_from: u32,
     y_from: u32,
@@ -26,21 +32,59 @@ pub(crate) fn cprl(
     requires { ⌜ (w .compno0 ≤ «c_from») × (w .ty0 ≤ «y_from») × (w .tx0 ≤ «x_from») × (w .resno0 ≤ «r_from») ⌝ }
     ensures { λ o. ⌜ ((s : Sheet) (g : Range) → Ready s g (now (prep .entry)) w (now (marks .entry)) → answerOf o ≡ seek (indexOf (s .st)) (now (marks .entry)) (entry «c_from» «y_from» «x_from» «r_from» «l_from» s g)) ⌝ }
 {
+    let layno1 = w.layno1;
     let resno0 = w.resno0;
     let resno1 = w.resno1;
     let compno1 = w.compno1;
     let tx0 = w.tx0;
     let ty0 = w.ty0;
+    let tx1 = w.tx1;
+    let ty1 = w.ty1;
     let mut y_at = y_from;
     let mut x_at = x_from;
     let mut r_at = r_from;
     let mut l_at = l_from;
+    let mut found = Found::Nothing;
     let mut c = c_from;
     'search: while c < compno1 {
-        let one = part(w, resno0, resno1, c, c + 1);
-        match pcrl(marks, prep, one, y_at, x_at, c, r_at, l_at) {
-            Found::At(place) => return Found::At(place),
-            Found::Nothing => {}
+        let mut y = y_at;
+        'ys: while y < ty1 {
+            let mut x = x_at;
+            'xs: while x < tx1 {
+                let mut r = r_at;
+                'rs: while r < resno1 {
+                    match cell_at(prep, r, c, x, y) {
+                        Cell::At(k) => {
+                            let mut l = l_at;
+                            'ls: while l < layno1 {
+                                let i = index(w, l, r, c, k);
+                                if is_free(marks, i) {
+                                    found = Found::At(Position {
+                                        layno: l,
+                                        resno: r,
+                                        compno: c,
+                                        precno: k,
+                                        x,
+                                        y,
+                                    });
+                                    break 'search;
+                                }
+                                l += 1;
+                            }
+                        }
+                        Cell::Nothing => {}
+                    }
+                    l_at = 0;
+                    r += 1;
+                }
+                r_at = resno0;
+                l_at = 0;
+                x = next_column(prep, resno0, resno1, c, c + 1, y, x, tx1);
+            }
+            x_at = tx0;
+            r_at = resno0;
+            l_at = 0;
+            y = next_row(prep, resno0, resno1, c, c + 1, y, ty1);
         }
         y_at = ty0;
         x_at = tx0;
@@ -48,5 +92,5 @@ pub(crate) fn cprl(
         l_at = 0;
         c += 1;
     }
-    Found::Nothing
+    found
 }

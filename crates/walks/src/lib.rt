@@ -1,4 +1,4 @@
-// The five walks, the step and the whole run.
+// The five walks and the five listings, over prepared numbers: what a step takes, and the listing of all progressions. Both ask for a sound state.
 mod cell;
 mod count;
 mod cprl;
@@ -10,16 +10,15 @@ mod list_pcrl;
 mod list_rlcp;
 mod list_rpcl;
 mod lrcp;
-mod mark;
 mod next;
 mod pcrl;
 mod plan;
 mod prepare;
+mod prepared;
 mod rlcp;
 mod row;
 mod rpcl;
-mod run;
+pub mod run;
 mod search;
-pub mod step;
-mod walk;
-pub mod whole;
+pub mod take;
+pub mod walk;

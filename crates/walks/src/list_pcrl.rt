@@ -1,13 +1,16 @@
 // The listing in the order PCRL: y, x, component, resolution, layer (T.800 B.12.1.4).
-use crate::cell::number_at;
 use crate::list::list_cell;
 use crate::next::nearer_from;
+use crate::prepared::Along;
+use crate::prepared::number_at;
 use crate::row::fill_row;
 use crate::walk::Walk;
+use types::cursor::Position;
+use types::state::State;
 ghost use mathlib.Core.Path.{_≡_};
 ghost use lib.ListN.{length};
 ghost use Rattle.packets.specs.Tile.{Sheet, indexOf};
-ghost use Rattle.packets.specs.Orders.{Range};
+ghost use Rattle.types.specs.declared.order.Range.{Range};
 ghost use Rattle.packets.specs.Grid.{stepX};
 ghost use Rattle.packets.specs.InPlay.{nextBefore, playX};
 ghost use Rattle.walks.specs.Prepared.{rangeBy, atRow};
@@ -27,8 +30,8 @@ struct Passed {
 fn list_point(
     marks: &mut [u8],
     output: &mut [u8],
-    prep: &[u32; 3696],
-    row: &[u32; 528],
+    prep: &[u32; Along::MAX_NUMBERS],
+    row: &[u32; State::MAX_ENTRIES],
     w: Walk,
     x: u32,
     y: u32,
@@ -48,7 +51,15 @@ fn list_point(
         'rs: while r < resno1 {
             let first = number_at(row, r, c);
             best = nearer_from(prep, first, r, c, x, best);
-            count = list_cell(marks, output, prep, first, w, r, c, x, y, count);
+            let p = Position {
+                layno: 0,
+                resno: r,
+                compno: c,
+                precno: 0,
+                x,
+                y,
+            };
+            count = list_cell(marks, output, prep, first, w, p, count);
             r += 1;
         }
         c += 1;
@@ -63,8 +74,8 @@ fn list_point(
 pub(crate) fn list_pcrl(
     marks: &mut [u8],
     output: &mut [u8],
-    row: &mut [u32; 528],
-    prep: &[u32; 3696],
+    row: &mut [u32; State::MAX_ENTRIES],
+    prep: &[u32; Along::MAX_NUMBERS],
     w: Walk,
     n: u32,
 ) -> u32

@@ -1,9 +1,10 @@
 // The listing in the order RLCP: resolution, layer, component, precinct (T.800 B.12.1.2).
 use crate::level::list_level;
 use crate::walk::Walk;
+use types::state::State;
 ghost use mathlib.Core.Path.{_≡_};
 ghost use Rattle.packets.specs.Tile.{Sheet, indexOf};
-ghost use Rattle.packets.specs.Orders.{Range};
+ghost use Rattle.types.specs.declared.order.Range.{Range};
 ghost use Rattle.walks.specs.Walk.{Counted};
 ghost use Rattle.walks.specs.Rlcp.{wholly};
 ghost use Rattle.walks.specs.Running.{Total, totalOf};
@@ -13,7 +14,7 @@ ghost use Rattle.walks.specs.Listing.{SomeListing};
 pub(crate) fn list_rlcp(
     marks: &mut [u8],
     output: &mut [u8],
-    counts: &[u32; 528],
+    counts: &[u32; State::MAX_ENTRIES],
     w: Walk,
     n: u32,
 ) -> u32

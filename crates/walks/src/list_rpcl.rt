@@ -1,11 +1,13 @@
 // The listing in the order RPCL: one resolution after the other, each in the order PCRL (T.800 B.12.1.3).
 use crate::list_pcrl::list_pcrl;
+use crate::prepared::Along;
 use crate::walk::Walk;
 use crate::walk::part;
+use types::state::State;
 ghost use mathlib.Core.Path.{_≡_};
 ghost use lib.ListN.{length};
 ghost use Rattle.packets.specs.Tile.{Sheet, indexOf};
-ghost use Rattle.packets.specs.Orders.{Range};
+ghost use Rattle.types.specs.declared.order.Range.{Range};
 ghost use Rattle.walks.specs.Walk.{Ready};
 ghost use Rattle.walks.specs.Rpcl.{wholly};
 ghost use Rattle.walks.specs.Running.{Total, totalOf};
@@ -15,8 +17,8 @@ ghost use Rattle.walks.specs.Listing.{SomeListing};
 pub(crate) fn list_rpcl(
     marks: &mut [u8],
     output: &mut [u8],
-    row: &mut [u32; 528],
-    prep: &[u32; 3696],
+    row: &mut [u32; State::MAX_ENTRIES],
+    prep: &[u32; Along::MAX_NUMBERS],
     w: Walk,
     n: u32,
 ) -> u32

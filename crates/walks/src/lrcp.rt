@@ -1,19 +1,23 @@
 // LRCP: layer, resolution, component, precinct (T.800 B.12.1.1).
-use crate::level::search_level;
+use crate::prepared::number_at;
 use crate::walk::Found;
 use crate::walk::Walk;
+use crate::walk::index;
+use types::cursor::Position;
+use types::mark::is_free;
+use types::state::State;
 ghost use mathlib.Core.Path.{_≡_};
 ghost use Prim.Native.Nat.{_≤_};
 ghost use Rattle.laws.specs.Runs.{seek};
 ghost use Rattle.packets.specs.Tile.{Sheet, indexOf};
-ghost use Rattle.packets.specs.Orders.{Range};
+ghost use Rattle.types.specs.declared.order.Range.{Range};
 ghost use Rattle.walks.specs.Walk.{answerOf, Counted, SomeCounted};
 ghost use Rattle.walks.specs.Lrcp.{entry};
 
 // The first free position from (l, r, c, k) on.
 pub(crate) fn lrcp(
     marks: &[u8],
-    counts: &[u32; 528],
+    counts: &[u32; State::MAX_ENTRIES],
     w: Walk,
     l_from: u32,
     r_from: u32,
@@ -28,16 +32,36 @@ pub(crate) fn lrcp(
     let resno0 = w.resno0;
     let resno1 = w.resno1;
     let compno0 = w.compno0;
+    let compno1 = w.compno1;
     let mut r_at = r_from;
     let mut c_at = c_from;
     let mut k_at = k_from;
+    let mut found = Found::Nothing;
     let mut l = l_from;
-    'ls: while l < layno1 {
+    'search: while l < layno1 {
         let mut r = r_at;
         'rs: while r < resno1 {
-            match search_level(marks, counts, w, l, r, c_at, k_at) {
-                Found::At(place) => return Found::At(place),
-                Found::Nothing => {}
+            let mut c = c_at;
+            'cs: while c < compno1 {
+                let count = number_at(counts, r, c);
+                let mut k = k_at;
+                'ks: while k < count {
+                    let i = index(w, l, r, c, k);
+                    if is_free(marks, i) {
+                        found = Found::At(Position {
+                            layno: l,
+                            resno: r,
+                            compno: c,
+                            precno: k,
+                            x: 0,
+                            y: 0,
+                        });
+                        break 'search;
+                    }
+                    k += 1;
+                }
+                k_at = 0;
+                c += 1;
             }
             c_at = compno0;
             k_at = 0;
@@ -48,5 +72,5 @@ pub(crate) fn lrcp(
         k_at = 0;
         l += 1;
     }
-    Found::Nothing
+    found
 }

@@ -1,6 +1,10 @@
 // The next row or column of a tile at which something in play can be met: resolutions r0 to r1 of components c0 to c1 that have precincts and,
 // for columns, that the row y meets. Beyond the last there is the end.
 use crate::cell::row_at;
+use crate::prepared::Along;
+use crate::prepared::along_x;
+use crate::prepared::along_y;
+use crate::prepared::width_at;
 ghost use mathlib.Core.Path.{_≡_};
 ghost use Prim.Native.Nat.{_+_, _-_, _%_, _<_, _≤_, min};
 ghost use Rattle.packets.specs.Tile.{Sheet};
@@ -20,19 +24,19 @@ pub(crate) fn nearer(best: u32, step: u32, z: u32) -> u32
 }
 
 // The distance from row y to the next that can meet a precinct of component c at resolution r, if that is less.
-pub(crate) fn nearer_row(prep: &[u32; 3696], r: u32, c: u32, y: u32, best: u32) -> u32
+pub(crate) fn nearer_row(prep: &[u32; Along::MAX_NUMBERS], r: u32, c: u32, y: u32, best: u32) -> u32
     requires { ⌜ SomePlay (now prep) r (r + 1) c (c + 1) ⌝ }
     ensures { λ n. ⌜ ((s : Sheet) → InPlay s (now (prep .entry)) r (r + 1) c (c + 1) → n ≡ nearerBy (playY s c r) (stepY s c r) y best) ⌝ }
 {
-    let at = 7 * (16 * (r as usize) + (c as usize));
-    if prep[at] == 0 {
+    if width_at(prep, r, c) == 0 {
         return best;
     }
-    nearer(best, prep[at + 2], y)
+    let rows = along_y(prep, r, c);
+    nearer(best, rows.step, y)
 }
 
 pub(crate) fn next_row(
-    prep: &[u32; 3696],
+    prep: &[u32; Along::MAX_NUMBERS],
     r0: u32,
     r1: u32,
     c0: u32,
@@ -57,18 +61,26 @@ pub(crate) fn next_row(
 }
 
 // The distance from x to the next column at which a row can meet a precinct of component c at resolution r, if that is less; first is 0 where it meets none.
-pub(crate) fn nearer_from(prep: &[u32; 3696], first: u32, r: u32, c: u32, x: u32, best: u32) -> u32
+pub(crate) fn nearer_from(
+    prep: &[u32; Along::MAX_NUMBERS],
+    first: u32,
+    r: u32,
+    c: u32,
+    x: u32,
+    best: u32,
+) -> u32
     requires { ⌜ SomeRowStart (now prep) first r c ⌝ }
     ensures { λ n. ⌜ ((s : Sheet) (y : _) → RowStart s (now (prep .entry)) first r c y → n ≡ nearerBy (playX s (atRow y) c r) (stepX s c r) x best) ⌝ }
 {
     if first == 0 {
         return best;
     }
-    nearer(best, prep[7 * (16 * (r as usize) + (c as usize)) + 1], x)
+    let columns = along_x(prep, r, c);
+    nearer(best, columns.step, x)
 }
 
 pub(crate) fn next_column(
-    prep: &[u32; 3696],
+    prep: &[u32; Along::MAX_NUMBERS],
     r0: u32,
     r1: u32,
     c0: u32,

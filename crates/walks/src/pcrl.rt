@@ -3,116 +3,24 @@ use crate::cell::Cell;
 use crate::cell::cell_at;
 use crate::next::next_column;
 use crate::next::next_row;
+use crate::prepared::Along;
 use crate::walk::Found;
 use crate::walk::Walk;
 use crate::walk::index;
-use crate::walk::is_free;
-use packets::cursor::Position;
+use types::cursor::Position;
+use types::mark::is_free;
 ghost use mathlib.Core.Path.{_≡_};
 ghost use Prim.Native.Nat.{_≤_};
 ghost use Rattle.laws.specs.Runs.{seek};
 ghost use Rattle.packets.specs.Tile.{Sheet, indexOf};
-ghost use Rattle.packets.specs.Orders.{Range};
+ghost use Rattle.types.specs.declared.order.Range.{Range};
 ghost use Rattle.walks.specs.Walk.{answerOf, Ready, SomeReady};
-ghost use Rattle.walks.specs.Turns.{Stands, InTile};
-ghost use Rattle.walks.specs.AtPoint.{layersFrom, cellFrom};
-ghost use Rattle.walks.specs.Layers.{Layered, SomeLayers};
-ghost use Rattle.walks.specs.Pcrl.{entry, point};
-
-// The first free layer from l_from on of precinct k of component c at resolution r, which is met at (x, y).
-fn search_layers(
-    marks: &[u8],
-    w: Walk,
-    r: u32,
-    c: u32,
-    x: u32,
-    y: u32,
-    k: u32,
-    l_from: u32,
-) -> Found
-    requires { ⌜ SomeLayers w (now marks) r c x y k ⌝ }
-    ensures { λ o. ⌜ ((s : Sheet) (g : Range) → Layered s g w (now (marks .entry)) r c x y k → answerOf o ≡ seek (indexOf (s .st)) (now (marks .entry)) (layersFrom r c x y k «l_from» s g)) ⌝ }
-{
-    let layno1 = w.layno1;
-    let mut l = l_from;
-    'ls: while l < layno1 {
-        let i = index(w, l, r, c, k);
-        if is_free(marks, i) {
-            return Found::At(Position {
-                layno: l,
-                resno: r,
-                compno: c,
-                precno: k,
-                x,
-                y,
-            });
-        }
-        l += 1;
-    }
-    Found::Nothing
-}
-
-// That of the precinct of component c at resolution r that is met at (x, y), if one is.
-fn search_cell(
-    marks: &[u8],
-    prep: &[u32; 3696],
-    w: Walk,
-    r: u32,
-    c: u32,
-    x: u32,
-    y: u32,
-    l_from: u32,
-) -> Found
-    requires { ⌜ Stands w r c x y × SomeReady (now prep) w (now marks) ⌝ }
-    ensures { λ o. ⌜ ((s : Sheet) (g : Range) → Ready s g (now (prep .entry)) w (now (marks .entry)) → answerOf o ≡ seek (indexOf (s .st)) (now (marks .entry)) (cellFrom r c x y «l_from» s g)) ⌝ }
-{
-    match cell_at(prep, r, c, x, y) {
-        Cell::At(k) => search_layers(marks, w, r, c, x, y, k, l_from),
-        Cell::Nothing => Found::Nothing,
-    }
-}
-
-// The first free position at (x, y) from (c, r, l) on.
-fn search_point(
-    marks: &[u8],
-    prep: &[u32; 3696],
-    w: Walk,
-    y: u32,
-    x: u32,
-    c_from: u32,
-    r_from: u32,
-    l_from: u32,
-) -> Found
-    requires { ⌜ InTile w x y × (w .compno0 ≤ «c_from») × (w .resno0 ≤ «r_from») × SomeReady (now prep) w (now marks) ⌝ }
-    ensures { λ o. ⌜ ((s : Sheet) (g : Range) → Ready s g (now (prep .entry)) w (now (marks .entry)) → answerOf o ≡ seek (indexOf (s .st)) (now (marks .entry)) (point y x «c_from» «r_from» «l_from» s g)) ⌝ }
-{
-    let resno0 = w.resno0;
-    let resno1 = w.resno1;
-    let compno1 = w.compno1;
-    let mut r_at = r_from;
-    let mut l_at = l_from;
-    let mut c = c_from;
-    'cs: while c < compno1 {
-        let mut r = r_at;
-        'rs: while r < resno1 {
-            match search_cell(marks, prep, w, r, c, x, y, l_at) {
-                Found::At(place) => return Found::At(place),
-                Found::Nothing => {}
-            }
-            l_at = 0;
-            r += 1;
-        }
-        r_at = resno0;
-        l_at = 0;
-        c += 1;
-    }
-    Found::Nothing
-}
+ghost use Rattle.walks.specs.Pcrl.{entry};
 
 // The first free position from (y, x, c, r, l) on.
 pub(crate) fn pcrl(
     marks: &[u8],
-    prep: &[u32; 3696],
+    prep: &[u32; Along::MAX_NUMBERS],
     w: Walk,
     y_from: u32,
     x_from: u32,
@@ -124,6 +32,7 @@ pub(crate) fn pcrl(
     requires { ⌜ (w .ty0 ≤ «y_from») × (w .tx0 ≤ «x_from») × (w .compno0 ≤ «c_from») × (w .resno0 ≤ «r_from») ⌝ }
     ensures { λ o. ⌜ ((s : Sheet) (g : Range) → Ready s g (now (prep .entry)) w (now (marks .entry)) → answerOf o ≡ seek (indexOf (s .st)) (now (marks .entry)) (entry «y_from» «x_from» «c_from» «r_from» «l_from» s g)) ⌝ }
 {
+    let layno1 = w.layno1;
     let resno0 = w.resno0;
     let resno1 = w.resno1;
     let compno0 = w.compno0;
@@ -135,13 +44,42 @@ pub(crate) fn pcrl(
     let mut c_at = c_from;
     let mut r_at = r_from;
     let mut l_at = l_from;
+    let mut found = Found::Nothing;
     let mut y = y_from;
-    'ys: while y < ty1 {
+    'search: while y < ty1 {
         let mut x = x_at;
         'xs: while x < tx1 {
-            match search_point(marks, prep, w, y, x, c_at, r_at, l_at) {
-                Found::At(place) => return Found::At(place),
-                Found::Nothing => {}
+            let mut c = c_at;
+            'cs: while c < compno1 {
+                let mut r = r_at;
+                'rs: while r < resno1 {
+                    match cell_at(prep, r, c, x, y) {
+                        Cell::At(k) => {
+                            let mut l = l_at;
+                            'ls: while l < layno1 {
+                                let i = index(w, l, r, c, k);
+                                if is_free(marks, i) {
+                                    found = Found::At(Position {
+                                        layno: l,
+                                        resno: r,
+                                        compno: c,
+                                        precno: k,
+                                        x,
+                                        y,
+                                    });
+                                    break 'search;
+                                }
+                                l += 1;
+                            }
+                        }
+                        Cell::Nothing => {}
+                    }
+                    l_at = 0;
+                    r += 1;
+                }
+                r_at = resno0;
+                l_at = 0;
+                c += 1;
             }
             c_at = compno0;
             r_at = resno0;
@@ -154,5 +92,5 @@ pub(crate) fn pcrl(
         l_at = 0;
         y = next_row(prep, resno0, resno1, compno0, compno1, y, ty1);
     }
-    Found::Nothing
+    found
 }

@@ -1,19 +1,23 @@
 // RLCP: resolution, layer, component, precinct (T.800 B.12.1.2).
-use crate::level::search_level;
+use crate::prepared::number_at;
 use crate::walk::Found;
 use crate::walk::Walk;
+use crate::walk::index;
+use types::cursor::Position;
+use types::mark::is_free;
+use types::state::State;
 ghost use mathlib.Core.Path.{_≡_};
 ghost use Prim.Native.Nat.{_≤_};
 ghost use Rattle.laws.specs.Runs.{seek};
 ghost use Rattle.packets.specs.Tile.{Sheet, indexOf};
-ghost use Rattle.packets.specs.Orders.{Range};
+ghost use Rattle.types.specs.declared.order.Range.{Range};
 ghost use Rattle.walks.specs.Walk.{answerOf, Counted, SomeCounted};
 ghost use Rattle.walks.specs.Rlcp.{entry};
 
 // The first free position from (r, l, c, k) on.
 pub(crate) fn rlcp(
     marks: &[u8],
-    counts: &[u32; 528],
+    counts: &[u32; State::MAX_ENTRIES],
     w: Walk,
     r_from: u32,
     l_from: u32,
@@ -27,16 +31,36 @@ pub(crate) fn rlcp(
     let layno1 = w.layno1;
     let resno1 = w.resno1;
     let compno0 = w.compno0;
+    let compno1 = w.compno1;
     let mut l_at = l_from;
     let mut c_at = c_from;
     let mut k_at = k_from;
+    let mut found = Found::Nothing;
     let mut r = r_from;
-    'rs: while r < resno1 {
+    'search: while r < resno1 {
         let mut l = l_at;
         'ls: while l < layno1 {
-            match search_level(marks, counts, w, l, r, c_at, k_at) {
-                Found::At(place) => return Found::At(place),
-                Found::Nothing => {}
+            let mut c = c_at;
+            'cs: while c < compno1 {
+                let count = number_at(counts, r, c);
+                let mut k = k_at;
+                'ks: while k < count {
+                    let i = index(w, l, r, c, k);
+                    if is_free(marks, i) {
+                        found = Found::At(Position {
+                            layno: l,
+                            resno: r,
+                            compno: c,
+                            precno: k,
+                            x: 0,
+                            y: 0,
+                        });
+                        break 'search;
+                    }
+                    k += 1;
+                }
+                k_at = 0;
+                c += 1;
             }
             c_at = compno0;
             k_at = 0;
@@ -47,5 +71,5 @@ pub(crate) fn rlcp(
         k_at = 0;
         r += 1;
     }
-    Found::Nothing
+    found
 }

@@ -1,6 +1,9 @@
 // One row of a tile: which precincts it meets, noted once for each component and resolution.
 use crate::cell::row_at;
 use crate::next::nearer_row;
+use crate::prepared::Along;
+use crate::prepared::put_number;
+use types::state::State;
 ghost use mathlib.Core.Path.{_≡_};
 ghost use Prim.Native.Nat.{_<_};
 ghost use lib.ListN.{length};
@@ -12,8 +15,8 @@ ghost use Rattle.walks.specs.InRow.{AtRow, SomeRow, Row};
 
 // Notes it for resolutions r0 to r1 of components c0 to c1 (cell::row_at); answers the next row at which one of them can be met, and beyond the last the end.
 pub(crate) fn fill_row(
-    row: &mut [u32; 528],
-    prep: &[u32; 3696],
+    row: &mut [u32; State::MAX_ENTRIES],
+    prep: &[u32; Along::MAX_NUMBERS],
     r0: u32,
     r1: u32,
     c0: u32,
@@ -30,7 +33,7 @@ pub(crate) fn fill_row(
         let mut r = r0;
         'rs: while r < r1 {
             best = nearer_row(prep, r, c, y, best);
-            row[16 * (r as usize) + (c as usize)] = row_at(prep, r, c, y);
+            put_number(row, r, c, row_at(prep, r, c, y));
             r += 1;
         }
         c += 1;

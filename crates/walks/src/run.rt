@@ -8,39 +8,44 @@ use crate::list_rpcl::list_rpcl;
 use crate::plan::Plan;
 use crate::plan::plan_of;
 use crate::prepare::prepare;
-use packets::state::State;
+use crate::prepared::Along;
+use types::order::Order;
+use types::state::State;
 ghost use mathlib.Core.Path.{_≡_};
 ghost use mathlib.Core.Bool.{false};
 ghost use Prim.Native.Nat.{ℕ};
 ghost use lib.ListN.{length};
 ghost use mathlib.Core.List.{List};
 ghost use Rattle.packets.specs.Tile.{indexOf};
+ghost use Rattle.types.specs.Orders.{byPoints};
 ghost use Rattle.packets.specs.Sound.{positionsFor};
 ghost use Rattle.packets.specs.Meaning.{Sound};
 ghost use Rattle.walks.specs.FromSound.{AllFilled};
 ghost use Rattle.walks.specs.Plan.{Planned};
-ghost use Rattle.walks.specs.ByOrder.{pointed};
+ghost use Rattle.walks.specs.Counting.{AllCounted};
 ghost use Rattle.walks.specs.Running.{Total, totalOf, SomeRun, SomeFilledRun};
 ghost use Rattle.walks.specs.RunAll.{fromOn, RestIn};
 
-// Whether the order with this number is one by points.
-fn by_points(order: u32) -> bool
-    ensures { λ r. ⌜ r ≡ pointed order ⌝ }
-{
-    (order > 1) & (order < 5)
-}
-
-// Lists a planned progression that is not by points, with n packets before it; answers how many there are then.
-fn list_counted(marks: &mut [u8], output: &mut [u8], counts: &[u32; 528], plan: Plan, n: u32) -> u32
-    requires { ⌜ SomeRun (now counts) plan (now marks) n × (pointed (plan .order) ≡ false) ⌝ }
-    ensures { λ r. ⌜ ((st : _) (table : List ℕ) (k : ℕ) → Planned st table k (now (counts .entry)) plan (now (marks .entry)) → _≡_ {A = Total} (record { count = r; marks = now (marks .exit); output = now (output .exit) }) (totalOf (indexOf st) (now (marks .entry)) (now (output .entry)) n (positionsFor st table k))) ⌝ }
+// Lists a planned progression whose order is not by points, with n packets before it; answers how many there are then.
+fn list_counted(
+    marks: &mut [u8],
+    output: &mut [u8],
+    counts: &[u32; State::MAX_ENTRIES],
+    plan: Plan,
+    n: u32,
+) -> u32
+    requires { ⌜ SomeRun (now counts) plan (now marks) n × (byPoints (plan .order) ≡ false) ⌝ }
+    ensures { λ r. ⌜ ((st : _) (table : List ℕ) (k : ℕ) → Planned st table k plan (now (marks .entry)) → AllCounted st table (now (counts .entry)) → _≡_ {A = Total} (record { count = r; marks = now (marks .exit); output = now (output .exit) }) (totalOf (indexOf st) (now (marks .entry)) (now (output .entry)) n (positionsFor st table k))) ⌝ }
 {
     let order = plan.order;
     let w = plan.walk;
     match order {
-        0 => list_lrcp(marks, output, counts, w, n),
-        1 => list_rlcp(marks, output, counts, w, n),
-        _ => n,
+        Order::Lrcp => list_lrcp(marks, output, counts, w, n),
+        Order::Rlcp => list_rlcp(marks, output, counts, w, n),
+        Order::Rpcl => n,
+        Order::Pcrl => n,
+        Order::Cprl => n,
+        Order::NoPositions => n,
     }
 }
 
@@ -48,22 +53,24 @@ fn list_counted(marks: &mut [u8], output: &mut [u8], counts: &[u32; 528], plan: 
 fn list_progression(
     marks: &mut [u8],
     output: &mut [u8],
-    row: &mut [u32; 528],
-    counts: &[u32; 528],
-    prep: &[u32; 3696],
+    row: &mut [u32; State::MAX_ENTRIES],
+    counts: &[u32; State::MAX_ENTRIES],
+    prep: &[u32; Along::MAX_NUMBERS],
     plan: Plan,
     n: u32,
 ) -> u32
     requires { ⌜ (length (now row) ≡ 528) × SomeFilledRun (now counts) (now prep) plan (now marks) n ⌝ }
-    ensures { λ r. ⌜ (length (now (row .exit)) ≡ 528) × ((st : _) (table : List ℕ) (k : ℕ) → Planned st table k (now (counts .entry)) plan (now (marks .entry)) → AllFilled st table (now (prep .entry)) → _≡_ {A = Total} (record { count = r; marks = now (marks .exit); output = now (output .exit) }) (totalOf (indexOf st) (now (marks .entry)) (now (output .entry)) n (positionsFor st table k))) ⌝ }
+    ensures { λ r. ⌜ (length (now (row .exit)) ≡ 528) × ((st : _) (table : List ℕ) (k : ℕ) → Planned st table k plan (now (marks .entry)) → AllCounted st table (now (counts .entry)) → AllFilled st table (now (prep .entry)) → _≡_ {A = Total} (record { count = r; marks = now (marks .exit); output = now (output .exit) }) (totalOf (indexOf st) (now (marks .entry)) (now (output .entry)) n (positionsFor st table k))) ⌝ }
 {
     let order = plan.order;
     let w = plan.walk;
     match order {
-        2 => list_rpcl(marks, output, row, prep, w, n),
-        3 => list_pcrl(marks, output, row, prep, w, n),
-        4 => list_cprl(marks, output, row, prep, w, n),
-        _ => list_counted(marks, output, counts, plan, n),
+        Order::Lrcp => list_lrcp(marks, output, counts, w, n),
+        Order::Rlcp => list_rlcp(marks, output, counts, w, n),
+        Order::Rpcl => list_rpcl(marks, output, row, prep, w, n),
+        Order::Pcrl => list_pcrl(marks, output, row, prep, w, n),
+        Order::Cprl => list_cprl(marks, output, row, prep, w, n),
+        Order::NoPositions => n,
     }
 }
 
@@ -71,7 +78,7 @@ fn list_progression(
 fn list_rest(
     st: State,
     table: &[u8],
-    counts: &[u32; 528],
+    counts: &[u32; State::MAX_ENTRIES],
     marks: &mut [u8],
     output: &mut [u8],
     k_from: u32,
@@ -80,21 +87,9 @@ fn list_rest(
     requires { ⌜ RestIn st (now table) (now counts) (now marks) n «k_from» ⌝ }
     ensures { λ r. ⌜ _≡_ {A = Total} (record { count = r; marks = now (marks .exit); output = now (output .exit) }) (totalOf (indexOf st) (now (marks .entry)) (now (output .entry)) n (fromOn st (now (table .entry)) «k_from»)) ⌝ }
 {
-    let mut prep = [0u32; 3696];
-    let dx = st.dx;
-    let dy = st.dy;
-    let resolutions = st.resolutions;
-    prepare(
-        &mut prep,
-        table,
-        st.components,
-        &dx,
-        &dy,
-        &resolutions,
-        st.tx0,
-        st.ty0,
-    );
-    let mut row = [0u32; 528];
+    let mut prep = [0u32; Along::MAX_NUMBERS];
+    prepare(&mut prep, table, st);
+    let mut row = [0u32; State::MAX_ENTRIES];
     let progressions = st.progressions;
     let mut count = n;
     let mut k = k_from;
@@ -107,19 +102,19 @@ fn list_rest(
 }
 
 // Lists every progression of a state in turn; answers how many packets there are.
-pub(crate) fn list_all(st: State, table: &[u8], marks: &mut [u8], output: &mut [u8]) -> u32
+pub fn list_all(st: State, table: &[u8], marks: &mut [u8], output: &mut [u8]) -> u32
     requires { ⌜ Sound st (now table) (now marks) ⌝ }
     ensures { λ r. ⌜ _≡_ {A = Total} (record { count = r; marks = now (marks .exit); output = now (output .exit) }) (totalOf (indexOf st) (now (marks .entry)) (now (output .entry)) 0 (fromOn st (now (table .entry)) 0)) ⌝ }
 {
-    let mut counts = [0u32; 528];
-    let resolutions = st.resolutions;
-    count_precincts(&mut counts, table, st.components, &resolutions);
+    let mut counts = [0u32; State::MAX_ENTRIES];
+    count_precincts(&mut counts, table, st);
     let progressions = st.progressions;
     let mut count = 0;
     let mut k = 0;
     'runs: while k < progressions {
         let plan = plan_of(st, k);
-        if by_points(plan.order) {
+        let order = plan.order;
+        if order.by_points() {
             return list_rest(st, table, &counts, marks, output, k, count);
         }
         count = list_counted(marks, output, &counts, plan, count);

@@ -1,9 +1,7 @@
 // What a walk goes over, where a mark stands, and what a walk finds.
-use packets::cursor::Position;
+use types::cursor::Position;
 ghost use mathlib.Core.Path.{_≡_};
 ghost use Prim.Native.Nat.{_+_, _*_, _<_};
-ghost use lib.ListN.{length, getD};
-ghost use lib.Dec.{eqb};
 ghost use Rattle.walks.specs.Walk.{indexBy};
 ghost use Rattle.walks.specs.Part.{partBy};
 
@@ -44,7 +42,7 @@ pub(crate) fn part(w: Walk, r0: u32, r1: u32, c0: u32, c1: u32) -> Walk
 }
 
 // What a search ends with.
-pub(crate) enum Found {
+pub enum Found {
     At(Position),
     Nothing,
 }
@@ -55,12 +53,4 @@ pub(crate) fn index(w: Walk, l: u32, r: u32, c: u32, k: u32) -> usize
     ensures { λ i. ⌜ i ≡ indexBy w l r c k ⌝ }
 {
     (l * w.stride_l + r * w.stride_r + c * w.stride_c + k) as usize
-}
-
-// A mark that is 0 is free; any other counts as marked.
-pub(crate) fn is_free(marks: &[u8], i: usize) -> bool
-    requires { ⌜ i < length (now marks) ⌝ }
-    ensures { λ r. ⌜ r ≡ eqb (getD (now (marks .entry)) i 0) 0 ⌝ }
-{
-    marks[i] == 0
 }

@@ -30,7 +30,7 @@ bytes-back a b c d ha hb hc hd =
     let e3 : w % 2 ^ 8 ≡ d = omega arith in
     λ i. e0 i ∷ e1 i ∷ e2 i ∷ e3 i ∷ []
 
--- bytes taken up to a word, and that word's: the bytes taken up to behind it
+-- bytes taken up to a word, and that word's: the bytes taken up to its end
 pub take-word : (s : List ℕ) → Bytes s → (at : ℕ) → at + 4 ≤ length s → take at s ++ bytesOf (wordAt s at) ≡ take (at + 4) s
 take-word s small at h =
     let one : (n : ℕ) → n < length s → take (n + 1) s ≡ take n s ++ (getD s n 0 ∷ []) = λ n l. rw (add-one n) (take-suc s n 0 l) in

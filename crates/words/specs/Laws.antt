@@ -42,7 +42,7 @@ bytes-word w rest h =
     let room : 0 + 4 ≤ length (bytesOf w ++ rest) = omega arith in
     rw (le-leb _ _ room) (omega arith)
 
--- room behind the first bytes
+-- room after the first bytes
 room-behind : (xs ys : List ℕ) (at : ℕ) → leb (length xs + at + 4) (length (xs ++ ys)) ≡ leb (at + 4) (length ys)
 room-behind xs ys at =
     ⊎-elim
@@ -54,7 +54,7 @@ room-behind xs ys at =
     rw (lt-leb _ _ h, lt-leb _ _ k))
     (le-or-lt (at + 4) (length ys))
 
--- a word behind the first bytes
+-- a word after the first bytes
 pub word-behind : (xs ys : List ℕ) (at : ℕ) → wordAt (xs ++ ys) (length xs + at) ≡ wordAt ys at
 unfolding wordAt
 word-behind xs ys at =
@@ -64,7 +64,7 @@ set-behind : (xs ys : List ℕ) (n v : ℕ) → set (xs ++ ys) (length xs + n) v
 set-behind [] ys n v = ap (λ (k : ℕ). set ys k v) (omega arith)
 set-behind (x ∷ xs) ys n v = rw (suc-add (length xs) n, set-behind xs ys n v)
 
--- a word written behind the first bytes
+-- a word written after the first bytes
 pub put-behind : (xs ys : List ℕ) (at w : ℕ) → putWord (xs ++ ys) (length xs + at) w ≡ xs ++ putWord ys at w
 unfolding putWord
 put-behind xs ys at w =
@@ -115,7 +115,7 @@ pub words-more : (ws : List ℕ) (w : ℕ) → wordsBytes (ws ++ (w ∷ [])) ≡
 unfolding wordsBytes gather
 words-more ws w = gather-append bytesOf ws (w ∷ [])
 
--- laying one word more over a buffer is writing it behind those laid
+-- laying one word more over a buffer is writing it after those laid
 pub over-more : (ws old : List ℕ) (w : ℕ) → 4 * length ws + 4 ≤ length old
     → putWord (over (wordsBytes ws) old) (4 * length ws) w ≡ over (wordsBytes (ws ++ (w ∷ []))) old
 over-more ws old w h =

@@ -1,5 +1,6 @@
-// The number of precincts on an axis of a resolution.
+// The precincts on an axis of a resolution: how many, and with the number of the first.
 use crate::show;
+use geometry::axis::Resolution;
 use geometry::precinct;
 
 // From, to, and the precinct exponent.
@@ -51,9 +52,21 @@ fn precincts(r0: u32, r1: u32, pd: u32) {
     show::answer(precinct::precincts(r0, r1, pd));
 }
 
+fn columns(r0: u32, r1: u32, pd: u32) {
+    show::call(b"columns", r0 as u64, r1 as u64);
+    show::number(pd as u64);
+    let columns = Resolution { r0, r1 }.columns(pd);
+    show::two(columns.first, columns.count);
+}
+
+fn each(r0: u32, r1: u32, pd: u32) {
+    precincts(r0, r1, pd);
+    columns(r0, r1, pd);
+}
+
 pub(crate) fn all() {
     for i in 0..36 {
         let s = SPANS[i];
-        precincts(s.0, s.1, s.2);
+        each(s.0, s.1, s.2);
     }
 }

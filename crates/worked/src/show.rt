@@ -19,6 +19,13 @@ pub(crate) fn equals(n: u32) {
     io::write_all(1, b"\n");
 }
 
+pub(crate) fn two(a: u32, b: u32) {
+    io::write_all(1, b" =");
+    number(a as u64);
+    number(b as u64);
+    io::write_all(1, b"\n");
+}
+
 pub(crate) fn answer(w: Word) {
     match w {
         Word::Value(n) => {

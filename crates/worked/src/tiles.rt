@@ -35,7 +35,7 @@ const CASES: [Case; 40] = [
     Case(3, 5, 1000, 700, 1, 2, 300, 100, 4, 7, 26),
     Case(3, 5, 1000, 700, 1, 2, 300, 100, 4, 7, 27),
     Case(3, 5, 1000, 700, 1, 2, 300, 100, 4, 7, 28),
-    // a tile before the image, one behind it, and one of no size
+    // a tile before the image, one after it, and one of no size
     Case(50, 0, 100, 80, 0, 0, 32, 32, 4, 3, 0),
     Case(0, 0, 90, 80, 0, 0, 32, 32, 4, 3, 3),
     Case(0, 0, 100, 80, 7, 9, 0, 0, 4, 3, 6),

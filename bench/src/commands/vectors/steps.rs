@@ -133,7 +133,7 @@ struct Alteration {
     bits: u8,
 }
 
-/// Lengths around those needed, and a byte of each word of the table changed, and the first behind it.
+/// Lengths around those needed, and a byte of each word of the table changed, and the first after it.
 fn alterations(steps: &Steps) -> Vec<Alteration> {
     let (table, marks) = (steps.table.len(), steps.marks_needed());
     let lent = |table, marks| Alteration { table, marks, place: 0, bits: 0 };

@@ -9,7 +9,7 @@ use borrow.Author.Tests.{ne-eqb, eqb-false}
 use borrow.Author.Needs.{needs}
 use Rattle.packets.specs.Sheet.{readVerdict}
 use Rattle.packets.specs.Calls.{refusal}
-use Rattle.packets.specs.Answers.{numberOf}
+use Rattle.types.specs.Answers.{numberOf}
 use Rattle.reader.specs.Reader.{readOf, verdictOf}
 use Rattle.reader.proofs.Records.{verdict-small}
 use Rattle.reader.proofs.read.Statement.{statement}

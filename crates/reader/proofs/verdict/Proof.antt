@@ -3,7 +3,7 @@ use Prim.Native.Nat.{ℕ, zero, suc, _<_}
 use mathlib.Core.Path.{_≡_, refl}
 use native.Mathlib.Omega.{arith}
 use borrow.Author.Needs.{needs}
-use Rattle.packets.specs.declared.answer.Verdict.the-variants.{Range}
+use Rattle.types.specs.declared.answer.Verdict.the-variants.{Range}
 use Rattle.reader.specs.Reader.{verdictOf}
 use Rattle.reader.proofs.verdict.Statement.{statement}
 use Rattle.reader.proofs.verdict.Tie as tie

@@ -1,33 +1,69 @@
 -- `passed`: after each component the survey has seen what the definitions say of it (`Seen`), and at the end what it finds are the sheet's numbers.
 -- The measure is what is left of the components. Assumes nothing.
-use Rattle.survey.proofs.Found.{above-x, above-y, found-is}
-use Rattle.survey.proofs.Seen.{Seen, seen-none, room, levels-few, seen-more, seen-bad, seen-many, survey-in}
-use Rattle.survey.proofs.Keeping.{keeps-none}
-use Rattle.survey.proofs.Tables.{KeptTo, kept-none, kept-more, kept-all}
-use Rattle.survey.proofs.Bases.{Small, places-small}
+use borrow.Author.Needs.{needs}
+use mathlib.Core.Path.{_≡_, refl, sym, ap, _∙_}
+use Prim.Native.Nat.{_-_, _≤_, _<_}
+use native.Mathlib.Omega.{arith}
+use denote.Ref.{now}
+use Rattle.packets.specs.Tile.{resOf}
 use Rattle.survey.specs.Passing.{placesOf}
 use Rattle.survey.specs.declared.Findings.{Findings}
-use denote.Ref.{now}
-use borrow.Author.Needs.{needs}
-use native.Mathlib.Omega.{arith}
-use mathlib.Core.Path.{_≡_, refl, sym, ap, _∙_}
-use Prim.Native.Nat.{_-_, _≤_}
+use Rattle.survey.proofs.Bases.{Small, places-small}
+use Rattle.survey.proofs.Seen.{Seen, seen-none, apart-near, levels-few, seen-more, next-near, seen-bad, seen-many, survey-in}
+use Rattle.survey.proofs.Tables.{KeptTo, kept-long, kept-none, kept-more, kept-all}
+use Rattle.survey.proofs.Keeping.{keeps-none}
+use Rattle.survey.proofs.Found.{above-x, above-y, found-is}
 use Rattle.survey.proofs.passed.Statement.{statement}
 use Rattle.survey.proofs.passed.Tie as tie
 
 abbrev Inv-loop : tie.InvT-loop
-Inv-loop e check kept₀ st n tile places place₀ to₀ all₀ max-res₀ xs₀ ys₀ c₀ kept place to all max-res xs ys c =
-    (c ≤ n) × Seen e places check st place all max-res xs ys c × KeptTo e places st kept₀ to kept c
+Inv-loop e check kept₀ st n tile places₀ to₀ all₀ max-res₀ xs₀ ys₀ c₀ kept places to all max-res xs ys c =
+    (c ≤ n) × Seen e places₀ check st places all max-res xs ys c × KeptTo e places₀ st kept₀ to kept c
 
 abbrev μ-loop : tie.MeasureT-loop
-μ-loop e check kept₀ st n tile places place₀ to₀ all₀ max-res₀ xs₀ ys₀ c₀ kept place to all max-res xs ys c = n - c
+μ-loop e check kept₀ st n tile places₀ to₀ all₀ max-res₀ xs₀ ys₀ c₀ kept places to all max-res xs ys c = n - c
+
+-- from a component's answer back to its turn of the loop, and from there to where the places were made and to the start
+abbrev turn : tie.After-component Inv-loop μ-loop → tie.In-loop Inv-loop μ-loop
+turn c = c .before .before .before .before .before
+
+abbrev placed : tie.In-loop Inv-loop μ-loop → tie.After-of Inv-loop μ-loop
+placed c = c .before .before .before
+
+abbrev start : tie.In-loop Inv-loop μ-loop → tie.Start Inv-loop μ-loop
+start c = c .before .before .before .before .before .before .before
+
+-- the places are small, and in the loop there are more components, of 16 at most
+small : (c : tie.After-of Inv-loop μ-loop) → Small (c .of .result)
+small c = rw (c .of .ensures) (places-small (c .before .before .before .before .args .at))
+
+below : (c : tie.In-loop Inv-loop μ-loop) → c .before .loop .c < 16
+below c = omega (arith, c .loop-test .taken, c .before .before .before .before .if1 .left)
+
+-- a good component has at most 33 resolutions
+levels : (c : tie.Then2 Inv-loop μ-loop) → resOf (start (turn (c .before .before .before)) .args .t4) (turn (c .before .before .before) .before .loop .c) ≤ 33
+levels c = levels-few (turn (c .before .before .before) .before .loop .inv .1) (c .before .before .before .component .ensures .0) (c .if2 .taken)
+
+-- after the loop all of them are passed
+module _ (c : tie.After-loop Inv-loop μ-loop) where
+  all-passed : c .before .loop .c ≡ c .before .before .before .before .before .before .before .args .t4 .components
+  all-passed = omega arith
+
+  seen :
+      let l = c .before .loop in
+      let a = c .before .before .before .before .before .before .before .args in
+      Seen (a .e .now) (c .before .before .before .of .result) (a .check) (a .t4) (l .places) (l .all) (l .max-res) (l .xs) (l .ys) (a .t4 .components)
+  seen = rw all-passed at (c .before .loop .inv .1)
 
 none-requires : tie.Need-none-requires Inv-loop μ-loop
 none-requires c κs = search needs
 
 returns : tie.Need-returns Inv-loop μ-loop
-returns c = let a = c .before .before .before .before .args in
-    (c .none .ensures ∙ sym (survey-in (a .e .now) (a .at) (a .check) (a .t4) (placesOf (a .at)) refl ∙ seen-many (a .e .now) _ (a .check) (a .t4) (c .before .if1 .taken)), keeps-none (now (a .kept)) _ 0 _ _ (ap (λ (f : Findings). f .good) (c .none .ensures)))
+returns c =
+    let a = c .before .before .before .before .args in (
+      c .none .ensures ∙ sym (survey-in (a .e .now) (a .at) (a .check) (a .t4) (placesOf (a .at)) refl ∙ seen-many (a .e .now) _ (a .check) (a .t4) (c .before .if1 .taken)),
+      keeps-none (now (a .kept)) _ 0 _ _ (ap (λ (f : Findings). f .good) (c .none .ensures)),
+    )
 
 cast-n : tie.Need-cast-n Inv-loop μ-loop
 cast-n c = search needs
@@ -39,35 +75,37 @@ start-requires : tie.Need-start-requires Inv-loop μ-loop
 start-requires c κs = search needs
 
 loop-holds : tie.Need-loop-holds Inv-loop μ-loop
-loop-holds c = let a = c .before .before .before .before .before .args in
-    (omega arith, rw (c .start .ensures) (seen-none (a .e .now) (c .before .of .result) (a .check) (a .t4) (rw (c .before .of .ensures) (places-small (a .at)))), kept-none (a .e .now) (c .before .of .result) (a .t4) (now (a .kept)))
+loop-holds c =
+    let a = c .before .before .before .before .before .args in (
+      omega arith,
+      rw (c .start .ensures) (seen-none (a .e .now) (c .before .of .result) (a .check) (a .t4) (small (c .before))),
+      kept-none (a .e .now) (c .before .of .result) (a .t4) (now (a .kept)),
+    )
 
-mul-dx : tie.Need-mul-dx Inv-loop μ-loop
-mul-dx c = omega arith
+mul-t25 : tie.Need-mul-t25 Inv-loop μ-loop
+mul-t25 c = omega arith
 
-element-copy-out-dx : tie.Need-element-copy-out-dx Inv-loop μ-loop
-element-copy-out-dx c = omega arith
+element-copy-out-t28 : tie.Need-element-copy-out-t28 Inv-loop μ-loop
+element-copy-out-t28 c = omega arith
 
-mul-dy : tie.Need-mul-dy Inv-loop μ-loop
-mul-dy c = omega arith
+mul-t29 : tie.Need-mul-t29 Inv-loop μ-loop
+mul-t29 c = omega arith
 
-element-copy-out-dy : tie.Need-element-copy-out-dy Inv-loop μ-loop
-element-copy-out-dy c = omega arith
+element-copy-out-t32 : tie.Need-element-copy-out-t32 Inv-loop μ-loop
+element-copy-out-t32 c = omega arith
 
-mul-resolutions : tie.Need-mul-resolutions Inv-loop μ-loop
-mul-resolutions c = omega arith
+mul-t33 : tie.Need-mul-t33 Inv-loop μ-loop
+mul-t33 c = omega arith
 
-element-copy-out-resolutions : tie.Need-element-copy-out-resolutions Inv-loop μ-loop
-element-copy-out-resolutions c = omega arith
+element-copy-out-t36 : tie.Need-element-copy-out-t36 Inv-loop μ-loop
+element-copy-out-t36 c = omega arith
 
 component-requires : tie.Need-component-requires Inv-loop μ-loop
-component-requires c κs = let a = c .before .before .before .before .before .before .before .before .before .before .before .args in
+component-requires c κs =
     let l = c .before .before .before .before .before .loop in
-    let p = c .before .before .before .before .before .before .before .of .result in
-    let small : Small p = rw (c .before .before .before .before .before .before .before .of .ensures) (places-small (a .at)) in
     let near = l .inv .1 .near in
-    let apart = small .apart in
-    (omega arith, apart, omega (arith, l .inv .2 .near, l .inv .2 .long, c .before .before .before .before .before .before .before .before .before .before .before .pre))
+    let few = below (c .before .before .before .before) in
+    (omega arith, apart-near (l .inv .1) (small (c .before .before .before .before .before .before .before)), omega (arith, l .inv .2 .near))
 
 joined-requires : tie.Need-joined-requires Inv-loop μ-loop
 joined-requires c κs = search needs
@@ -87,43 +125,19 @@ mul-ys c = omega arith
 array-write-ys : tie.Need-array-write-ys Inv-loop μ-loop
 array-write-ys c = omega arith
 
-cast-place : tie.Need-cast-place Inv-loop μ-loop
-cast-place c = search needs
-
-mul-place : tie.Need-mul-place Inv-loop μ-loop
-mul-place c = let a = c .before .before .before .before .before .before .before .before .before .before .before .before .before .before .before .before .before .before .args in
-    let l = c .before .before .before .before .before .before .before .before .before .before .before .before .loop in
-    let p = c .before .before .before .before .before .before .before .before .before .before .before .before .before .before .of .result in
-    let one = c .before .before .before .before .before .before .component in
-    let small : Small p = rw (c .before .before .before .before .before .before .before .before .before .before .before .before .before .before .of .ensures) (places-small (a .at)) in
-    omega (arith, room (l .inv .1) (one .ensures .0) small (omega (arith, c .before .before .before .before .before .before .before .before .before .before .before .loop-test .taken, c .before .before .before .before .before .before .before .before .before .before .before .before .before .before .before .if1 .left)) (c .before .before .before .if2 .taken))
-
-add-place : tie.Need-add-place Inv-loop μ-loop
-add-place c = let a = c .before .before .before .before .before .before .before .before .before .before .before .before .before .before .before .before .before .before .before .args in
-    let l = c .before .before .before .before .before .before .before .before .before .before .before .before .before .loop in
-    let p = c .before .before .before .before .before .before .before .before .before .before .before .before .before .before .before .of .result in
-    let one = c .before .before .before .before .before .before .before .component in
-    let small : Small p = rw (c .before .before .before .before .before .before .before .before .before .before .before .before .before .before .before .of .ensures) (places-small (a .at)) in
-    omega (arith, room (l .inv .1) (one .ensures .0) small (omega (arith, c .before .before .before .before .before .before .before .before .before .before .before .before .loop-test .taken, c .before .before .before .before .before .before .before .before .before .before .before .before .before .before .before .before .if1 .left)) (c .before .before .before .before .if2 .taken))
-
-add-place-2 : tie.Need-add-place-2 Inv-loop μ-loop
-add-place-2 c = let a = c .before .before .before .before .before .before .before .before .before .before .before .before .before .before .before .before .before .before .before .args in
-    let l = c .before .before .before .before .before .before .before .before .before .before .before .before .before .loop in
-    let p = c .before .before .before .before .before .before .before .before .before .before .before .before .before .before .before .of .result in
-    let one = c .before .before .before .before .before .before .before .component in
-    let small : Small p = rw (c .before .before .before .before .before .before .before .before .before .before .before .before .before .before .before .of .ensures) (places-small (a .at)) in
-    omega (arith, room (l .inv .1) (one .ensures .0) small (omega (arith, c .before .before .before .before .before .before .before .before .before .before .before .before .loop-test .taken, c .before .before .before .before .before .before .before .before .before .before .before .before .before .before .before .before .if1 .left)) (c .before .before .before .before .if2 .taken))
+after-requires : tie.Need-after-requires Inv-loop μ-loop
+after-requires c κs =
+    let t = turn (c .before .before .before .before .before) in
+    omega (arith, next-near (t .before .loop .inv .1) (c .before .before .before .before .before .component .ensures .0) (small (placed t)) (below t) (c .before .before .if2 .taken))
 
 cast-to : tie.Need-cast-to Inv-loop μ-loop
 cast-to c = omega arith
 
 mul-to : tie.Need-mul-to Inv-loop μ-loop
-mul-to c = let l = c .before .before .before .before .before .before .before .before .before .before .before .before .before .loop in
-    omega (arith, levels-few (l .inv .1) (c .before .before .before .before .before .before .before .component .ensures .0) (c .before .before .before .before .if2 .taken), l .inv .2 .near, c .before .before .before .before .before .before .before .before .before .before .before .before .loop-test .taken, c .before .before .before .before .before .before .before .before .before .before .before .before .before .before .before .before .if1 .left)
+mul-to c = omega (arith, levels (c .before .before .before .before))
 
 add-to : tie.Need-add-to Inv-loop μ-loop
-add-to c = let l = c .before .before .before .before .before .before .before .before .before .before .before .before .before .loop in
-    omega (arith, levels-few (l .inv .1) (c .before .before .before .before .before .before .before .component .ensures .0) (c .before .before .before .before .if2 .taken), l .inv .2 .near, c .before .before .before .before .before .before .before .before .before .before .before .before .loop-test .taken, c .before .before .before .before .before .before .before .before .before .before .before .before .before .before .before .before .if1 .left)
+add-to c = let t = turn (c .before .before .before .before .before .before .before) in omega (arith, levels (c .before .before .before .before), t .before .loop .inv .2 .near, below t)
 
 add-c : tie.Need-add-c Inv-loop μ-loop
 add-c c = omega arith
@@ -132,49 +146,47 @@ loop-less : tie.Need-loop-less Inv-loop μ-loop
 loop-less c = omega arith
 
 loop-again : tie.Need-loop-again Inv-loop μ-loop
-loop-again c = let a = c .before .before .before .before .before .before .before .before .before .before .before .before .before .before .before .before .before .before .before .args in
-    let l = c .before .before .before .before .before .before .before .before .before .before .before .before .before .loop in
-    let p = c .before .before .before .before .before .before .before .before .before .before .before .before .before .before .before .of .result in
-    let small : Small p = rw (c .before .before .before .before .before .before .before .before .before .before .before .before .before .before .before .of .ensures) (places-small (a .at)) in
-    let one = c .before .before .before .before .before .before .before .component in
-    (omega (arith, c .before .before .before .before .before .before .before .before .before .before .before .before .loop-test .taken), rw (c .before .before .before .joined .ensures, c .before .before .uint-max .ensures) (seen-more (l .inv .1) (one .ensures .0) small (omega (arith, c .before .before .before .before .before .before .before .before .before .before .before .before .loop-test .taken, c .before .before .before .before .before .before .before .before .before .before .before .before .before .before .before .before .if1 .left)) (c .before .before .before .before .if2 .taken)), kept-more (a .e .now) p (a .t4) (now (a .kept)) (l .inv .2) (l .inv .1 .at) (levels-few (l .inv .1) (one .ensures .0) (c .before .before .before .before .if2 .taken)) (one .ensures .1 (c .before .before .before .before .if2 .taken)))
+loop-again c =
+    let t = turn (c .before .before .before .before .before .before .before) in
+    let a = start t .args in
+    let l = t .before .loop in
+    let one = c .before .before .before .before .before .before .before .component in (
+      omega (arith, t .loop-test .taken),
+      rw (c .before .after .ensures, c .before .before .uint-max .ensures, c .before .before .before .joined .ensures) (seen-more (l .inv .1) (one .ensures .0) (small (placed t)) (below t) (c .before .before .before .before .if2 .taken)),
+      kept-more (a .e .now) (placed t .of .result) (a .t4) (now (a .kept)) (l .inv .2) (l .inv .1 .at) (levels (c .before .before .before .before)) (one .ensures .1 (c .before .before .before .before .if2 .taken)),
+    )
 
 none-requires-2 : tie.Need-none-requires-2 Inv-loop μ-loop
 none-requires-2 c κs = search needs
 
 same-length : tie.Need-same-length Inv-loop μ-loop
-same-length c = let w = c .before .before .before .before .component in omega (arith, w .kept, c .before .before .before .before .before .before .before .before .before .before .loop .inv .2 .long)
+same-length c = omega (arith, c .before .before .before .before .component .kept, kept-long (turn (c .before .before .before .before) .before .loop .inv .2))
 
 returns-2 : tie.Need-returns-2 Inv-loop μ-loop
-returns-2 c = let a = c .before .before .before .before .before .before .before .before .before .before .before .before .before .before .before .before .args in
-    let l = c .before .before .before .before .before .before .before .before .before .before .loop in
-    let p = c .before .before .before .before .before .before .before .before .before .before .before .before .of .result in
-    let one = c .before .before .before .before .component in
-    (c .none2 .ensures ∙ sym (survey-in (a .e .now) (a .at) (a .check) (a .t4) p (c .before .before .before .before .before .before .before .before .before .before .before .before .of .ensures) ∙ seen-bad (l .inv .1) (one .ensures .0) (omega arith) (c .before .if2 .left)), keeps-none (now (a .kept)) _ 0 _ _ (ap (λ (f : Findings). f .good) (c .none2 .ensures)))
+returns-2 c =
+    let t = turn (c .before .before .before .before) in
+    let a = start t .args in
+    let p = placed t .of in (
+      c .none2 .ensures
+          ∙ sym (survey-in (a .e .now) (a .at) (a .check) (a .t4) (p .result) (p .ensures) ∙ seen-bad (t .before .loop .inv .1) (c .before .before .before .before .component .ensures .0) (omega arith) (c .before .if2 .left)),
+      keeps-none (now (a .kept)) _ 0 _ _ (ap (λ (f : Findings). f .good) (c .none2 .ensures)),
+    )
 
 wanted-requires : tie.Need-wanted-requires Inv-loop μ-loop
 wanted-requires c κs = search needs
 
 of-requires-2 : tie.Need-of-requires-2 Inv-loop μ-loop
-of-requires-2 c κs = let a = c .before .before .before .before .before .before .before .before .before .before .args in
-    let l = c .before .before .before .before .loop in
-    let p = c .before .before .before .before .before .before .of .result in
-    let end : l .c ≡ a .t4 .components = omega arith in
-    let s : Seen (a .e .now) p (a .check) (a .t4) (l .place) (l .all) (l .max-res) (l .xs) (l .ys) (a .t4 .components) = rw end at (l .inv .1) in
-    (omega arith, s .shallow, above-x s, above-y s)
+of-requires-2 c κs = let s = seen (c .before .before .before) in (omega arith, s .shallow, above-x s, above-y s)
 
 same-length-2 : tie.Need-same-length-2 Inv-loop μ-loop
-same-length-2 c = omega (arith, c .before .before .before .before .before .loop .inv .2 .long)
+same-length-2 c = omega (arith, kept-long (c .before .before .before .before .before .loop .inv .2))
 
 returns-3 : tie.Need-returns-3 Inv-loop μ-loop
-returns-3 c = let a = c .before .before .before .before .before .before .before .before .before .before .before .args in
-    let l = c .before .before .before .before .before .loop in
-    let p = c .before .before .before .before .before .before .before .of .result in
-    let end : l .c ≡ a .t4 .components = omega arith in
-    let s : Seen (a .e .now) p (a .check) (a .t4) (l .place) (l .all) (l .max-res) (l .xs) (l .ys) (a .t4 .components) = rw end at (l .inv .1) in (
+returns-3 c =
+    let a = c .before .before .before .before .before .before .before .before .before .before .before .args in (
       rw (c .of2 .ensures, c .before .before .before .wanted .ensures)
-          (found-is s (omega arith) ∙ sym (survey-in (a .e .now) (a .at) (a .check) (a .t4) p (c .before .before .before .before .before .before .before .of .ensures))),
-      λ g. kept-all (a .e .now) (a .at) p (a .t4) (now (a .kept)) (c .before .before .before .before .before .before .before .of .ensures) end (l .inv .2),
+          (found-is (seen (c .before .before .before .before)) (omega arith) ∙ sym (survey-in (a .e .now) (a .at) (a .check) (a .t4) (c .before .before .before .before .before .before .before .of .result) (c .before .before .before .before .before .before .before .of .ensures))),
+      λ g. kept-all (a .e .now) (a .at) (c .before .before .before .before .before .before .before .of .result) (a .t4) (now (a .kept)) (c .before .before .before .before .before .before .before .of .ensures) (all-passed (c .before .before .before .before)) (c .before .before .before .before .before .loop .inv .2),
     )
 
 pub passed-spec : {M : Type 1} → statement M
@@ -189,12 +201,12 @@ passed-spec =
     of-requires
     start-requires
     loop-holds
-    mul-dx
-    element-copy-out-dx
-    mul-dy
-    element-copy-out-dy
-    mul-resolutions
-    element-copy-out-resolutions
+    mul-t25
+    element-copy-out-t28
+    mul-t29
+    element-copy-out-t32
+    mul-t33
+    element-copy-out-t36
     component-requires
     joined-requires
     uint-max-requires
@@ -202,10 +214,7 @@ passed-spec =
     array-write-xs
     mul-ys
     array-write-ys
-    cast-place
-    mul-place
-    add-place
-    add-place-2
+    after-requires
     cast-to
     mul-to
     add-to

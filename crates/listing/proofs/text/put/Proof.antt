@@ -1,4 +1,4 @@
--- `put`: byte after byte is copied behind what is there. Assumes nothing.
+-- `put`: byte after byte is copied after what is there. Assumes nothing.
 use Prim.Native.Nat.{_-_}
 use lib.ListN.{length}
 use borrow.Author.Needs.{needs}

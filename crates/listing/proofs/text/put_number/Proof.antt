@@ -1,4 +1,4 @@
--- `put_number`: the digits that are spelled, at most ten, and the byte behind them. Assumes nothing.
+-- `put_number`: the digits that are spelled, at most ten, and the byte after them. Assumes nothing.
 use native.Mathlib.Omega.{arith}
 use borrow.Author.Needs.{needs}
 use Rattle.listing.specs.Digits.{few-digits, spelled}

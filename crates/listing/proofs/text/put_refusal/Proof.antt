@@ -1,4 +1,4 @@
--- `put_refusal`: the words, and the number behind them. Assumes nothing.
+-- `put_refusal`: the words, and the number after them. Assumes nothing.
 use mathlib.Core.List.{List, [], _∷_, _++_}
 use Prim.Native.Nat.{ℕ}
 use mathlib.Core.Path.{_∙_, ap}

@@ -1,4 +1,4 @@
--- `fields`: behind c components the state has those c and the next record is the one at hand; so with the progressions, and behind the last the fields are whole. Assumes nothing.
+-- `fields`: after c components the state has those c and the next record is the one at hand; so with the progressions, and after the last the fields are whole. Assumes nothing.
 use Prim.Native.Nat.{_-_}
 use denote.Ref.{now}
 use borrow.Author.Needs.{needs}

@@ -38,8 +38,8 @@ returns c =
     v .ensures
     ∙ sym (l .loop .inv .1 ∙ read-stop (now (a .s)) (a .progressions) (length (now (a .s)) / 32) (l .loop .i) (dueOf (l .loop .d)) (omega arith) (rw (← (v .ensures)) (ne-eqb _ _ (c .if1 .taken))))
 
-due-behind-requires : tie.Need-due-behind-requires Inv-loop μ-loop
-due-behind-requires c κs = omega arith
+due-after-requires : tie.Need-due-after-requires Inv-loop μ-loop
+due-after-requires c κs = omega arith
 
 add-i : tie.Need-add-i Inv-loop μ-loop
 add-i c = omega arith
@@ -54,7 +54,7 @@ loop-again c =
     let v = c .before .before .record-verdict in (
       omega arith,
       l .loop .inv .1
-          ∙ rw (c .due-behind .ensures)
+          ∙ rw (c .due-after .ensures)
           (read-more (now (a .s)) (a .progressions) (length (now (a .s)) / 32) (l .loop .i) (dueOf (l .loop .d)) (omega arith) (sym (v .ensures) ∙ c .before .if1 .left)),
     )
 
@@ -84,7 +84,7 @@ read-records-spec =
     add-loop
     record-verdict-requires
     returns
-    due-behind-requires
+    due-after-requires
     add-i
     loop-less
     loop-again

@@ -1,4 +1,4 @@
--- `read_verdict`: length, then the tile, then the records behind it, as in the definition. Assumes nothing.
+-- `read_verdict`: length, then the tile, then the records after it, as in the definition. Assumes nothing.
 use Prim.Native.Nat.{_%_}
 use mathlib.Core.Path.{sym, _∙_}
 use native.Mathlib.Omega.{arith}

@@ -1,41 +1,54 @@
 -- `resolutions`: the sums so far are those of the resolutions passed, all of them good; one that is not ends the survey. The measure is what is left of n.
 -- Assumes nothing.
-use Rattle.survey.proofs.Components.{place-next, place-within, passed-none, turn-good, turn-sums}
-use Rattle.survey.proofs.Keeping.{words-none, words-more, keeps-none}
-use Rattle.survey.specs.Passing.{entryFine, passed, resolutionSums}
-use Rattle.survey.specs.Kept.{putNumbers, resolutionWords}
-use Rattle.survey.specs.declared.sums.Sums.{Sums}
-use lib.ListN.{length}
-use Rattle.laws.specs.Below.{allBelow, all-none, all-more, all-fails}
-use denote.Ref.{now}
 use borrow.Author.Needs.{needs}
-use native.Mathlib.Nat.{mul-zero}
+use mathlib.Core.Path.{_≡_, sym, ap, _∙_}
+use Prim.Native.Nat.{_+_, _-_, _≤_}
 use native.Mathlib.Omega.{arith}
-use mathlib.Core.Bool.{true, false}
-use mathlib.Core.Path.{_≡_, refl, sym, ap, _∙_}
-use Prim.Native.Nat.{ℕ, _+_, _-_, _*_, _≤_}
+use lib.ListN.{length}
+use denote.Ref.{now}
+use Rattle.survey.specs.Passing.{exponentsAt}
+use Rattle.survey.specs.Put.{putNumbers, put-length}
+use Rattle.survey.specs.Kept.{resolutionWords}
+use Rattle.survey.specs.declared.sums.Sums.{Sums}
+use Rattle.survey.proofs.Components.{place-within, Taken, taken-none, taken-more, taken-bad, taken-all}
+use Rattle.survey.proofs.Keeping.{words-none, words-more, keeps-none}
 use Rattle.survey.proofs.component.resolutions.Statement.{statement}
 use Rattle.survey.proofs.component.resolutions.Tie as tie
 
 abbrev Inv-loop : tie.InvT-loop
-Inv-loop e first apart check x y n kept₀ to all₀ at₀ r₀ kept all at r = (r ≤ n) × (at ≡ first + apart * r) × (all ≡ passed e (λ i. first + apart * i) x y n r) × (allBelow (λ i. entryFine e (first + apart * i) check x y (n - 1 - i)) r ≡ true) × (length kept ≡ length kept₀) × (kept ≡ putNumbers kept₀ to (resolutionWords e (λ i. first + apart * i) x y n r))
+Inv-loop e places check axes n kept₀ to all₀ at₀ r₀ kept all at r =
+    (r ≤ n) × Taken e places check axes n at all r × (kept ≡ putNumbers kept₀ to (resolutionWords e (exponentsAt places) axes n r))
 
 abbrev μ-loop : tie.MeasureT-loop
-μ-loop e first apart check x y n kept₀ to all₀ at₀ r₀ kept all at r = n - r
+μ-loop e places check axes n kept₀ to all₀ at₀ r₀ kept all at r = n - r
+
+-- from the loop back to the start
+abbrev start : tie.At-loop Inv-loop μ-loop → tie.Start Inv-loop μ-loop
+start c = c .before .before .before .before
+
+-- the places of the next resolution are near, and what is kept has its length
+next-near : (c : tie.In-loop Inv-loop μ-loop) → exponentsAt (start (c .before) .args .places) (c .before .loop .r) + start (c .before) .args .places .apart ≤ exponentsAt (start (c .before) .args .places) (start (c .before) .args .n)
+next-near c = place-within (start (c .before) .args .places) (c .before .loop .r) (start (c .before) .args .n) (c .loop-test .taken)
+
+long : (c : tie.At-loop Inv-loop μ-loop) → length (c .loop .kept) ≡ length (now (start c .args .kept))
+long c = ap length (c .loop .inv .2) ∙ put-length _ (now (start c .args .kept)) (start c .args .to)
 
 start-requires : tie.Need-start-requires Inv-loop μ-loop
 start-requires c κs = search needs
 
 loop-holds : tie.Need-loop-holds Inv-loop μ-loop
-loop-holds c = let a = c .before .before .before .args in
-    let q : ℕ → ℕ = λ i. a .first + a .apart * i in
-    (omega arith, omega (arith, mul-zero (a .apart)), c .start .ensures ∙ sym (passed-none (now (a .e)) q (a .check) (a .x) (a .y) (a .n)), all-none _, refl, sym (words-none (now (a .e)) q (a .x) (a .y) (a .n) (now (a .kept)) (a .to)))
+loop-holds c =
+    let a = c .before .before .before .args in (
+      omega arith,
+      rw (c .start .ensures) (taken-none (now (a .e)) (a .places) (a .check) (a .axes) (a .n)),
+      sym (words-none (now (a .e)) (exponentsAt (a .places)) (a .axes) (a .n) (now (a .kept)) (a .to)),
+    )
 
-sub-resolution : tie.Need-sub-resolution Inv-loop μ-loop
-sub-resolution c = omega arith
+sub-level : tie.Need-sub-level Inv-loop μ-loop
+sub-level c = omega arith
 
-sub-resolution-2 : tie.Need-sub-resolution-2 Inv-loop μ-loop
-sub-resolution-2 c = omega arith
+sub-level-2 : tie.Need-sub-level-2 Inv-loop μ-loop
+sub-level-2 c = omega arith
 
 cast-resolution : tie.Need-cast-resolution Inv-loop μ-loop
 cast-resolution c = omega arith
@@ -47,15 +60,12 @@ add-resolution : tie.Need-add-resolution Inv-loop μ-loop
 add-resolution c = omega arith
 
 resolution-requires : tie.Need-resolution-requires Inv-loop μ-loop
-resolution-requires c κs = let a = c .before .before .before .before .before .before .args in
-    let l = c .before .before .loop in
+resolution-requires c κs =
     let p = c .before .before .before .before .before .before .pre in
-    (omega (arith, place-within (a .first) (a .apart) (l .r) (a .n) (c .before .loop-test .taken)), omega arith, p .2, p .3, omega (arith, p .4, l .inv .4))
+    (omega (arith, next-near (c .before)), omega arith, p .2, p .3, omega arith)
 
 add-at : tie.Need-add-at Inv-loop μ-loop
-add-at c = let a = c .before .before .before .before .before .before .before .before .before .before .args in
-    let l = c .before .before .before .before .before .before .loop in
-    omega (arith, place-within (a .first) (a .apart) (l .r) (a .n) (c .before .before .before .before .before .loop-test .taken))
+add-at c = omega (arith, next-near (c .before .before .before .before .before .before))
 
 add-r : tie.Need-add-r Inv-loop μ-loop
 add-r c = omega arith
@@ -64,46 +74,37 @@ loop-less : tie.Need-loop-less Inv-loop μ-loop
 loop-less c = omega arith
 
 loop-again : tie.Need-loop-again Inv-loop μ-loop
-loop-again c = let a = c .before .before .before .before .before .before .before .before .before .before .args in
-    let l = c .before .before .before .before .before .before .loop in
-    let q : ℕ → ℕ = λ i. a .first + a .apart * i in
-    let w = c .before .before .before .resolution in
-    let fine : entryFine (now (a .e)) (q (l .r)) (a .check) (a .x) (a .y) (a .n - 1 - l .r) ≡ true
-    = sym (turn-good (now (a .e)) q (a .check) (a .x) (a .y) (a .n) (l .r) (l .at) (l .all) (w .result) (l .inv .1) (l .inv .2) (w .ensures .0)) ∙ c .if1 .taken in (
+loop-again c =
+    let a = start (c .before .before .before .before .before .before .before) .args in
+    let l = c .before .before .before .before .before .before .before .loop in
+    let w = c .before .before .before .before .resolution in (
       omega arith,
-      omega (arith, place-next (a .first) (a .apart) (l .r)),
-      turn-sums (now (a .e)) q (a .check) (a .x) (a .y) (a .n) (l .r) (l .at) (l .all) (w .result) (l .inv .1) (l .inv .2) (w .ensures .0) fine,
-      all-more _ (l .r) (l .inv .3) fine,
-      omega (arith, w .kept),
-      w .ensures .1 (c .if1 .taken) ∙ rw (l .inv .5, l .inv .1) (words-more (now (a .e)) q (a .x) (a .y) (a .n) (now (a .kept)) (a .to) (l .r)),
+      taken-more (l .inv .1) (w .ensures .0) (c .before .if1 .taken),
+      w .ensures .1 (c .before .if1 .taken) ∙ rw (l .inv .2, l .inv .1 .there) (words-more (now (a .e)) (exponentsAt (a .places)) (a .axes) (a .n) (now (a .kept)) (a .to) (l .r)),
     )
 
 none-requires : tie.Need-none-requires Inv-loop μ-loop
 none-requires c κs = search needs
 
 same-length : tie.Need-same-length Inv-loop μ-loop
-same-length c = let w = c .before .before .before .before .resolution in omega (arith, w .kept)
+same-length c = omega (arith, c .before .before .before .before .resolution .kept, long (c .before .before .before .before .before .before .before))
 
 returns : tie.Need-returns Inv-loop μ-loop
-unfolding resolutionSums
-returns c = let a = c .before .before .before .before .before .before .before .before .before .before .before .args in
-    let l = c .before .before .before .before .before .before .before .loop in
-    let q : ℕ → ℕ = λ i. a .first + a .apart * i in
-    let w = c .before .before .before .before .resolution in
-    let bad : entryFine (now (a .e)) (q (l .r)) (a .check) (a .x) (a .y) (a .n - 1 - l .r) ≡ false
-    = sym (turn-good (now (a .e)) q (a .check) (a .x) (a .y) (a .n) (l .r) (l .at) (l .all) (w .result) (l .inv .1) (l .inv .2) (w .ensures .0)) ∙ c .before .if1 .left in
-    (rw (c .none .ensures, all-fails (λ i. entryFine (now (a .e)) (q i) (a .check) (a .x) (a .y) (a .n - 1 - i)) (a .n) (l .r) (c .before .before .before .before .before .before .loop-test .taken) bad), keeps-none (now (a .kept)) _ (a .to) _ _ (ap (λ (s : Sums). s .good) (c .none .ensures)))
+returns c =
+    let a = start (c .before .before .before .before .before .before .before) .args in
+    let l = c .before .before .before .before .before .before .before .loop in (
+      c .none .ensures ∙ sym (taken-bad (l .inv .1) (c .before .before .before .before .resolution .ensures .0) (c .before .before .before .before .before .before .loop-test .taken) (c .before .if1 .left)),
+      keeps-none (now (a .kept)) _ (a .to) _ _ (ap (λ (s : Sums). s .good) (c .none .ensures)),
+    )
 
 same-length-2 : tie.Need-same-length-2 Inv-loop μ-loop
-same-length-2 c = omega arith
+same-length-2 c = long (c .before)
 
 returns-2 : tie.Need-returns-2 Inv-loop μ-loop
-unfolding resolutionSums
-returns-2 c = let a = c .before .before .before .before .before .args in
+returns-2 c =
     let l = c .before .loop in
-    let end : l .r ≡ a .n = omega arith in
-    let good = rw end at (l .inv .3) in
-    (rw good (rw end at (l .inv .2)), λ g. rw end at (l .inv .5))
+    let end : l .r ≡ start (c .before) .args .n = omega arith in
+    (taken-all (l .inv .1) end, λ g. rw end at (l .inv .2))
 
 pub resolutions-spec : {M : Type 1} → statement M
 resolutions-spec =
@@ -113,8 +114,8 @@ resolutions-spec =
     μ-loop
     start-requires
     loop-holds
-    sub-resolution
-    sub-resolution-2
+    sub-level
+    sub-level-2
     cast-resolution
     mul-resolution
     add-resolution

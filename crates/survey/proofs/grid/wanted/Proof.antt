@@ -1,6 +1,6 @@
 -- `wanted`: the most of the progressions passed; those beyond the array want nothing. The measure is what is left of n. Assumes nothing.
 use lib.ListN.{length, getD, length-map}
-use Rattle.packets.specs.State.{noProgression}
+use Rattle.types.specs.State.{noProgression}
 use mir.Val.{SFits}
 use mir.Syntax.{w32}
 use mir.Facts.{toZ-ofZ}
@@ -34,6 +34,9 @@ mul-p c = omega arith
 element-copy-out-p : tie.Need-element-copy-out-p Inv-loop μ-loop
 element-copy-out-p c = omega arith
 
+of-requires : tie.Need-of-requires Inv-loop μ-loop
+of-requires c κs = search needs
+
 want-requires : tie.Need-want-requires Inv-loop μ-loop
 want-requires c κs = search needs
 
@@ -47,9 +50,10 @@ loop-less : tie.Need-loop-less Inv-loop μ-loop
 loop-less c = omega arith
 
 loop-again : tie.Need-loop-again Inv-loop μ-loop
-loop-again c = let st = c .before .before .before .before .before .before .before .args .t1 in
-    let fits : SFits w32 (getD (st .changes) (c .before .before .before .before .before .loop .k) noProgression .prg) = search needs in
-    (omega arith, omega arith, rw (max-more (wantAt (c .before .before .before .before .before .before .before .args .t1)) (c .before .before .before .before .before .loop .k), ← (c .before .before .before .before .before .loop .inv .2), c .uint-max .ensures, c .before .want .ensures, toZ-ofZ fits))
+loop-again c = let st = c .before .before .before .before .before .before .before .before .args .t1 in
+    let l = c .before .before .before .before .before .before .loop in
+    let fits : SFits w32 (getD (st .changes) (l .k) noProgression .prg) = search needs in
+    (omega arith, omega arith, rw (max-more (wantAt st) (l .k), ← (l .inv .2), c .uint-max .ensures, c .before .want .ensures, c .before .before .of .ensures, toZ-ofZ fits))
 
 returns : tie.Need-returns Inv-loop μ-loop
 returns c = let st = c .before .before .before .args .t1 in
@@ -68,6 +72,7 @@ wanted-spec =
     loop-holds
     mul-p
     element-copy-out-p
+    of-requires
     want-requires
     uint-max-requires
     add-k

@@ -1,135 +1,81 @@
 -- `row_at`: the prepared numbers answer for a row as the sheet does (RowLaws); one sheet that they stand for shows that no step is 0 and that nothing wraps. Assumes nothing.
-use Rattle.walks.specs.Prepared.{widthIn}
-use Rattle.walks.specs.RowLaws.{row-none, row-missed, row-met, row-step, row-from, row-small}
-use Rattle.laws.specs.Cases.{not-true, not-false}
-use Prim.Native.Nat.{_<_}
-use mathlib.Core.Path.{sym, _∙_}
-use denote.Ref.{now}
-use native.Mathlib.Omega.{arith}
 use borrow.Author.Needs.{needs}
+use mathlib.Core.Path.{_≡_, sym, ap, _∙_}
+use mathlib.Core.Bool.{true}
+use Prim.Native.Nat.{_≤_, _<_}
+use native.Mathlib.Omega.{arith}
+use denote.Ref.{now}
+use Rattle.laws.specs.Cases.{not-true, not-false}
+use Rattle.walks.specs.declared.prepared.Along.{Along}
+use Rattle.walks.specs.Prepared.{widthIn, alongY, hitBy}
+use Rattle.walks.specs.RowLaws.{row-none, row-missed, row-met, row-step, row-from, row-small}
 use Rattle.walks.proofs.cell.row_at.Statement.{statement}
 use Rattle.walks.proofs.cell.row_at.Tie as tie
 
-mul-at : tie.Need-mul-at
-mul-at c = search needs
+-- there are precincts, the step is above 0, and the row meets some
+wide : (c : tie.Else1) → (let a = c .before .before .args in 0 < widthIn (now (a .prep)) (a .r) (a .c))
+wide c = omega (arith, c .if1 .left, c .before .width-at .ensures)
 
-add-at : tie.Need-add-at
-add-at c = search needs
+steps : (c : tie.Else1) → (let a = c .before .before .args in 1 ≤ alongY (now (a .prep)) (a .r) (a .c) .step)
+steps c = let a = c .before .before .args in let w = c .before .before .pre in row-step (w .0) (now (a .prep)) (a .r) (a .c) (a .y) (w .1) (wide c)
 
-mul-at-2 : tie.Need-mul-at-2
-mul-at-2 c = search needs
+meets : (c : tie.Else2) → (let a = c .before .before .before .before .before .args in hitBy (alongY (now (a .prep)) (a .r) (a .c)) (a .y) ≡ true)
+meets c = ap (λ (k : Along). hitBy k (c .before .before .before .before .before .args .y)) (sym (c .before .before .along-y .ensures)) ∙ sym (c .before .hits .ensures) ∙ not-false _ (c .if2 .left)
 
-mul-width : tie.Need-mul-width
-mul-width c = search needs
-
-element-copy-out-width : tie.Need-element-copy-out-width
-element-copy-out-width c = search needs
+width-at-requires : tie.Need-width-at-requires
+width-at-requires c κs = search needs
 
 returns : tie.Need-returns
-returns c =
-    let a = c .before .before .args in
-    λ s h. row-none s (now (a .prep)) (a .r) (a .c) (a .y) h (c .if1 .taken)
+returns c = let a = c .before .before .args in λ s h. row-none s (now (a .prep)) (a .r) (a .c) (a .y) h (sym (c .before .width-at .ensures) ∙ c .if1 .taken)
 
-add-step : tie.Need-add-step
-add-step c = search needs
-
-mul-step : tie.Need-mul-step
-mul-step c = search needs
-
-element-copy-out-step : tie.Need-element-copy-out-step
-element-copy-out-step c = search needs
-
-add-hits : tie.Need-add-hits
-add-hits c = search needs
-
-mul-hits : tie.Need-mul-hits
-mul-hits c = search needs
-
-element-copy-out-hits : tie.Need-element-copy-out-hits
-element-copy-out-hits c = search needs
+along-y-requires : tie.Need-along-y-requires
+along-y-requires c κs = search needs
 
 hits-requires : tie.Need-hits-requires
-hits-requires c κs =
-    let a = c .before .before .before .before .args in
-    let w = c .before .before .before .before .pre in
-    row-step (w .0) (now (a .prep)) (a .r) (a .c) (a .y) (w .1) (omega (arith, c .before .before .if1 .left))
+hits-requires c κs = rw (c .along-y .ensures) (steps (c .before))
 
 returns-2 : tie.Need-returns-2
 returns-2 c =
-    let a = c .before .before .before .before .before .before .args in
-    let n : 0 < widthIn (now (a .prep)) (a .r) (a .c) = omega (arith, c .before .before .before .before .if1 .left) in
-    let z = sym (c .before .hits .ensures) ∙ not-true _ (c .if2 .taken) in
-    λ s h. row-missed s (now (a .prep)) (a .r) (a .c) (a .y) h n z
+    let a = c .before .before .before .before .before .args in
+    let z = ap (λ (k : Along). hitBy k (a .y)) (sym (c .before .before .along-y .ensures)) ∙ sym (c .before .hits .ensures) ∙ not-true _ (c .if2 .taken) in
+    λ s h. row-missed s (now (a .prep)) (a .r) (a .c) (a .y) h (wide (c .before .before .before)) z
 
-div-result : tie.Need-div-result
-div-result c =
-    let a = c .before .before .before .before .before .before .args in
-    let w = c .before .before .before .before .before .before .pre in
-    row-step (w .0) (now (a .prep)) (a .r) (a .c) (a .y) (w .1) (omega (arith, c .before .before .before .before .if1 .left))
-
-add-result : tie.Need-add-result
-add-result c = search needs
+column-requires : tie.Need-column-requires
+column-requires c κs =
+    let a = c .before .before .before .before .before .args in
+    let w = c .before .before .before .before .before .pre in
+    rw (c .before .before .along-y .ensures) (steps (c .before .before .before), row-from (w .0) (now (a .prep)) (a .r) (a .c) (a .y) (w .1) (wide (c .before .before .before)) (meets c))
 
 mul-result : tie.Need-mul-result
-mul-result c = search needs
+mul-result c =
+    let a = c .before .before .before .before .before .before .args in
+    let w = c .before .before .before .before .before .before .pre in
+    rw (c .column .ensures, c .before .before .before .along-y .ensures, c .before .before .before .before .before .width-at .ensures)
+    (omega (arith, row-small (w .0) (now (a .prep)) (a .r) (a .c) (a .y) (w .1) (wide (c .before .before .before .before)) (meets (c .before))))
 
-element-copy-out-result : tie.Need-element-copy-out-result
-element-copy-out-result c = search needs
-
-sub-result : tie.Need-sub-result
-sub-result c =
-    let a = c .before .before .before .before .before .before .before .args in
-    let w = c .before .before .before .before .before .before .before .pre in
-    let n : 0 < widthIn (now (a .prep)) (a .r) (a .c) = omega (arith, c .before .before .before .before .before .if1 .left) in
-    let p = sym (c .before .before .hits .ensures) ∙ not-false _ (c .before .if2 .left) in
-    row-from (w .0) (now (a .prep)) (a .r) (a .c) (a .y) (w .1) n p
-
-mul-result-2 : tie.Need-mul-result-2
-mul-result-2 c =
-    let a = c .before .before .before .before .before .before .before .args in
-    let w = c .before .before .before .before .before .before .before .pre in
-    let n : 0 < widthIn (now (a .prep)) (a .r) (a .c) = omega (arith, c .before .before .before .before .before .if1 .left) in
-    let p = sym (c .before .before .hits .ensures) ∙ not-false _ (c .before .if2 .left) in
-    omega (arith, row-small (w .0) (now (a .prep)) (a .r) (a .c) (a .y) (w .1) n p)
-
-add-result-2 : tie.Need-add-result-2
-add-result-2 c =
-    let a = c .before .before .before .before .before .before .before .args in
-    let w = c .before .before .before .before .before .before .before .pre in
-    let n : 0 < widthIn (now (a .prep)) (a .r) (a .c) = omega (arith, c .before .before .before .before .before .if1 .left) in
-    let p = sym (c .before .before .hits .ensures) ∙ not-false _ (c .before .if2 .left) in
-    omega (arith, row-small (w .0) (now (a .prep)) (a .r) (a .c) (a .y) (w .1) n p)
+add-result : tie.Need-add-result
+add-result c =
+    let a = c .before .before .before .before .before .before .args in
+    let w = c .before .before .before .before .before .before .pre in
+    rw (c .column .ensures, c .before .before .before .along-y .ensures, c .before .before .before .before .before .width-at .ensures)
+    (omega (arith, row-small (w .0) (now (a .prep)) (a .r) (a .c) (a .y) (w .1) (wide (c .before .before .before .before)) (meets (c .before))))
 
 returns-3 : tie.Need-returns-3
 returns-3 c =
-    let a = c .before .before .before .before .before .before .before .args in
-    let n : 0 < widthIn (now (a .prep)) (a .r) (a .c) = omega (arith, c .before .before .before .before .before .if1 .left) in
-    let p = sym (c .before .before .hits .ensures) ∙ not-false _ (c .before .if2 .left) in
-    λ s h. row-met s (now (a .prep)) (a .r) (a .c) (a .y) h n p
+    let a = c .before .before .before .before .before .before .args in
+    rw (c .column .ensures, c .before .before .before .along-y .ensures, c .before .before .before .before .before .width-at .ensures)
+    (λ s h. row-met s (now (a .prep)) (a .r) (a .c) (a .y) h (wide (c .before .before .before .before)) (meets (c .before)))
 
 pub row-at-spec : {M : Type 1} → statement M
 row-at-spec =
     tie.close
     (tie.spec
-    mul-at
-    add-at
-    mul-at-2
-    mul-width
-    element-copy-out-width
+    width-at-requires
     returns
-    add-step
-    mul-step
-    element-copy-out-step
-    add-hits
-    mul-hits
-    element-copy-out-hits
+    along-y-requires
     hits-requires
     returns-2
-    div-result
-    add-result
+    column-requires
     mul-result
-    element-copy-out-result
-    sub-result
-    mul-result-2
-    add-result-2
+    add-result
     returns-3)

@@ -1,9 +1,9 @@
 -- `count_component`: so far the counts of the resolutions passed are right, and no others were written. Assumes nothing.
-use Rattle.walks.specs.Counting.{Written, none-written, more-written}
-use Prim.Native.Nat.{_-_, _≤_}
-use mathlib.Core.Path.{_≡_}
-use native.Mathlib.Omega.{arith}
 use borrow.Author.Needs.{needs}
+use mathlib.Core.Path.{_≡_}
+use Prim.Native.Nat.{_-_, _≤_}
+use native.Mathlib.Omega.{arith}
+use Rattle.walks.specs.Counting.{Written, none-written, more-written}
 use Rattle.walks.proofs.count.count_component.Statement.{statement}
 use Rattle.walks.proofs.count.count_component.Tie as tie
 
@@ -16,41 +16,20 @@ abbrev μ-rs : tie.MeasureT-rs
 rs-holds : tie.Need-rs-holds Inv-rs μ-rs
 rs-holds c = (omega arith, none-written _ _ _ _ (c .before .pre .0))
 
-cast-i : tie.Need-cast-i Inv-rs μ-rs
-cast-i c = let k = c .before .before .before .pre .1 in omega (arith, k .levels)
+cast-at : tie.Need-cast-at Inv-rs μ-rs
+cast-at c = omega arith
 
-mul-from : tie.Need-mul-from Inv-rs μ-rs
-mul-from c = let k = c .before .before .before .pre .1 in omega (arith, k .levels)
+add-at : tie.Need-add-at Inv-rs μ-rs
+add-at c = let k = c .before .before .before .pre .1 in omega (arith, k .levels, k .near)
 
-add-from : tie.Need-add-from Inv-rs μ-rs
-add-from c = let k = c .before .before .before .pre .1 in omega (arith, k .levels, k .near)
+at-requires : tie.Need-at-requires Inv-rs μ-rs
+at-requires c κs = search needs
 
-add-word-at : tie.Need-add-word-at Inv-rs μ-rs
-add-word-at c = let k = c .before .before .before .pre .1 in omega (arith, k .levels, k .near)
+mul-put-number : tie.Need-mul-put-number Inv-rs μ-rs
+mul-put-number c = rw (c .before .before .at .ensures) (omega (arith, c .before .before .before .before .before .before .pre .1 .few (c .before .before .before .before .rs .r) (c .before .before .before .rs-test .taken)))
 
-word-at-requires : tie.Need-word-at-requires Inv-rs μ-rs
-word-at-requires c κs = let k = c .before .before .before .pre .1 in omega (arith, k .levels, k .near)
-
-add-word-at-2 : tie.Need-add-word-at-2 Inv-rs μ-rs
-add-word-at-2 c = let k = c .before .before .before .before .pre .1 in omega (arith, k .levels, k .near)
-
-word-at-requires-2 : tie.Need-word-at-requires-2 Inv-rs μ-rs
-word-at-requires-2 c κs = let k = c .before .before .before .before .pre .1 in omega (arith, k .levels, k .near)
-
-mul-counts : tie.Need-mul-counts Inv-rs μ-rs
-mul-counts c = rw (c .word-at2 .ensures, c .before .word-at .ensures) (omega (arith, c .before .before .before .before .before .pre .1 .few (c .before .before .before .rs .r) (c .before .before .rs-test .taken)))
-
-mul-counts-2 : tie.Need-mul-counts-2 Inv-rs μ-rs
-mul-counts-2 c = let k = c .before .before .before .before .before .pre .1 in omega (arith, k .levels)
-
-add-counts : tie.Need-add-counts Inv-rs μ-rs
-add-counts c = let k = c .before .before .before .before .before .pre .1 in omega (arith, k .levels, k .components)
-
-mul-counts-3 : tie.Need-mul-counts-3 Inv-rs μ-rs
-mul-counts-3 c = let k = c .before .before .before .before .before .pre .1 in omega (arith, k .levels, k .components)
-
-element-write-counts : tie.Need-element-write-counts Inv-rs μ-rs
-element-write-counts c = let k = c .before .before .before .before .before .pre .1 in omega (arith, k .levels, k .components)
+put-number-requires : tie.Need-put-number-requires Inv-rs μ-rs
+put-number-requires c κs = let k = c .before .before .before .before .before .before .pre .1 in (omega (arith, k .levels), k .components)
 
 add-r : tie.Need-add-r Inv-rs μ-rs
 add-r c = search needs
@@ -60,8 +39,8 @@ rs-less c = search needs
 
 rs-again : tie.Need-rs-again Inv-rs μ-rs
 rs-again c =
-    let i = c .before .before .before .rs in
-    (omega arith, rw (c .word-at2 .ensures, c .before .word-at .ensures) (more-written _ _ _ _ _ _ (i .r) (c .before .before .before .before .before .pre .1) (c .before .before .rs-test .taken) (i .inv .1)))
+    let i = c .before .before .before .before .before .rs in
+    (omega arith, rw (c .put-number .ensures, c .before .before .before .at .ensures) (more-written _ _ _ _ _ _ (i .r) (c .before .before .before .before .before .before .before .pre .1) (c .before .before .before .before .rs-test .taken) (i .inv .1)))
 
 returns : tie.Need-returns Inv-rs μ-rs
 returns c = let i = c .before .rs in let e : i .r ≡ c .before .before .before .args .n = omega arith in rw e at (i .inv .1)
@@ -73,18 +52,11 @@ count-component-spec =
     Inv-rs
     μ-rs
     rs-holds
-    cast-i
-    mul-from
-    add-from
-    add-word-at
-    word-at-requires
-    add-word-at-2
-    word-at-requires-2
-    mul-counts
-    mul-counts-2
-    add-counts
-    mul-counts-3
-    element-write-counts
+    cast-at
+    add-at
+    at-requires
+    mul-put-number
+    put-number-requires
     add-r
     rs-less
     rs-again

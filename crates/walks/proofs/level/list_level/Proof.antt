@@ -53,11 +53,12 @@ ks-holds c = first-listed _ _ _ _ _ _ (λ s g h. refl)
 
 list-packet-requires : tie.Need-list-packet-requires Inv-ks μ-ks Inv-cs μ-cs
 list-packet-requires c κs =
-    let p = c .before .before .before .before .before .before .before .before .before .pre .1 in
-    let t = at-ks (c .before .before) in
-    let s = stands (c .before .before .before .before .before) in
-    let e = c .before .before .before .before .number-at .ensures in
-    let h = c .before .before .ks-test .taken in (
+    let z = c .before .before in
+    let p = z .before .before .before .before .before .before .before .pre .1 in
+    let t = at-ks z in
+    let s = stands (z .before .before .before) in
+    let e = z .before .before .number-at .ensures in
+    let h = z .ks-test .taken in (
       mark-fits (p .0) (p .1 .0) _ _ _ (p .1 .1) _ _ _ s _ e _ h,
       rw (t .long) (mark-there (p .0) (p .1 .0) _ _ _ (p .1 .1) _ _ _ s _ e _ h),
       listed-few _ _ _ _ _ _ t (p .0) (p .1 .0) (p .1 .1) (p .1 .2),
@@ -71,10 +72,11 @@ ks-less c = search needs
 
 ks-again : tie.Need-ks-again Inv-ks μ-ks Inv-cs μ-cs
 ks-again c =
-    let s' = stands (c .before .before .before .before .before .before .before .before .before .before) in
-    let e = c .before .before .before .before .before .before .before .before .before .number-at .ensures in
-    let k = c .before .before .before .before .before .before .before .ks-test .taken in
-    one-listed _ _ _ _ _ _ (c .before .before .before .before .before .before .before .before .ks .inv) _ _ _ (λ s g h. (inK s g _ _ _ _ (below s g _ _ _ h _ _ _ s' _ e _ k), mark-is s g _ _ _ h _ _ _ s' _ e _ k))
+    let z = c .before .before .before .before .before .before .before in
+    let s' = stands (z .before .before .before) in
+    let e = z .before .before .number-at .ensures in
+    let k = z .ks-test .taken in
+    one-listed _ _ _ _ _ _ (z .before .ks .inv) _ _ _ (λ s g h. (inK s g _ _ _ _ (below s g _ _ _ h _ _ _ s' _ e _ k), mark-is s g _ _ _ h _ _ _ s' _ e _ k))
     (search needs) (search needs) (c .before .before .before .before .list-packet .ensures)
 
 add-c : tie.Need-add-c Inv-ks μ-ks Inv-cs μ-cs

@@ -2,18 +2,28 @@
 use mathlib.Core.Path.{_≡_, sym, ap, _∙_}
 use denote.Ref.{now}
 use Rattle.packets.specs.Tile.{Sheet}
-use Rattle.packets.specs.Orders.{Range}
+use Rattle.types.specs.declared.order.Range.{Range}
 use Rattle.walks.specs.Prepared.{cellOf}
 use Rattle.walks.specs.Running.{totalOf, total-none}
-use Rattle.walks.specs.Layers.{Celled, cell-layered, cell-left, cell-passed}
+use Rattle.walks.specs.Layers.{CelledAt, cell-layered, cell-left, cell-passed}
 use borrow.Author.Needs.{needs}
 use Rattle.walks.proofs.list.list_cell.Statement.{statement}
 use Rattle.walks.proofs.list.list_cell.Tie as tie
 
 -- what the cell answers, for every sheet that the listing is ready for
 cell-is : (c : tie.After-cell-from) (s : Sheet) (g : Range)
-    → (let a = c .before .before .before .args in Celled s g (now (a .prep)) (a .first) (a .w) (now (a .marks)) (a .r) (a .c) (a .x) (a .y) → c .cell-from .result ≡ cellOf s (a .r) (a .c) (a .x) (a .y))
+    → (let a = c .before .before .before .args in CelledAt s g (now (a .prep)) (a .first) (a .w) (now (a .marks)) (a .p) → c .cell-from .result ≡ cellOf s (a .p .resno) (a .p .compno) (a .p .x) (a .p .y))
 cell-is c s g d = c .cell-from .ensures s _ (d .point)
+
+-- the cell, from where its layers are to be listed and from the end
+abbrev asked : tie.After-list-layers-arg2 → tie.After-cell-from
+asked c = c .before .before .before .before .before
+
+abbrev told : tie.After-slice-known4 → tie.After-cell-from
+told c = c .before .before .before .before .before .before .before .before .before .before
+
+abbrev met : tie.After-slice-known4 → tie.After-k
+met c = c .before .before .before .before .before .before .before .before
 
 cell-from-requires : tie.Need-cell-from-requires
 cell-from-requires c κs = let p = c .before .before .pre in (p .0, (_, p .1 .1 .point))
@@ -23,10 +33,10 @@ enum-known-k c = search needs
 
 list-layers-requires : tie.Need-list-layers-requires
 list-layers-requires c κs =
-    let p = c .before .before .before .before .before .before .before .before .pre in
+    let p = asked c .before .before .before .pre in
     let d = p .1 .1 in
-    let cell = c .before .before .before .before .before .cell-from .result in
-    let e = cell-is (c .before .before .before .before .before) _ _ d in
+    let cell = asked c .cell-from .result in
+    let e = cell-is (asked c) _ _ d in
     let k = c .before .before .before .k .given .1 in
     (p .0, (p .1 .0, cell-layered _ _ _ _ _ (d .ready) _ _ _ _ (d .stands) cell e _ k, rw (cell-left _ _ _ _ _ (d .ready) _ _ _ _ (d .stands) cell e _ _ k) at (p .1 .2)))
 
@@ -41,9 +51,9 @@ same-length-2 c = search needs
 
 returns : tie.Need-returns
 returns c s g d =
-    let cell = c .before .before .before .before .before .before .before .before .before .before .cell-from .result in
-    let e = cell-is (c .before .before .before .before .before .before .before .before .before .before) s g d in
-    let k = c .before .before .before .before .before .before .before .before .k .given .1 in
+    let cell = told c .cell-from .result in
+    let e = cell-is (told c) s g d in
+    let k = met c .k .given .1 in
     c .before .before .before .before .list-layers .ensures s g (cell-layered s g _ _ _ (d .ready) _ _ _ _ (d .stands) cell e _ k)
     ∙ ap (totalOf _ _ _ _) (sym (cell-left s g _ _ _ (d .ready) _ _ _ _ (d .stands) cell e _ _ k))
 

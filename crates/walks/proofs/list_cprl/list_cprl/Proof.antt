@@ -30,9 +30,10 @@ part-requires c κs = search needs
 
 list-pcrl-requires : tie.Need-list-pcrl-requires Inv-cs μ-cs
 list-pcrl-requires c κs =
-    let p = c .before .before .before .before .before .before .before .before .pre .1 in
-    let i = c .before .before .before .before .before .cs .inv in
-    let t = c .before .before .before .before .cs-test .taken in
+    let z = c .before .before .before .before in
+    let p = z .before .before .before .before .pre .1 in
+    let i = z .before .cs .inv in
+    let t = z .cs-test .taken in
     let h = p .1 .1 in
     rw (c .before .before .before .part .ensures) (
       i .1,
@@ -47,11 +48,12 @@ cs-less c = search needs
 
 cs-again : tie.Need-cs-again Inv-cs μ-cs
 cs-again c =
-    let one = c .before .before .before .before .before .before .before .before .part in
-    let k = c .before .before .before .before .before .before .before .before .before .before .cs .c in
-    let i = c .before .before .before .before .before .before .before .before .before .before .cs .inv in
-    let t = c .before .before .before .before .before .before .before .before .before .cs-test .taken in
-    let listed = c .before .before .before .before .list-pcrl .ensures in (
+    let z = c .before .before .before .before in
+    let one = z .before .before .before .before .part in
+    let k = z .before .before .before .before .before .before .cs .c in
+    let i = z .before .before .before .before .before .before .cs .inv in
+    let t = z .before .before .before .before .before .cs-test .taken in
+    let listed = z .list-pcrl .ensures in (
       omega (arith, i .0),
       listed .0,
       part-listed _ _ _ _ _ _ (i .2) (λ s g. pcrl.wholly (one .result) s (alone g k)) _ (λ s g h. rw (one .ensures) (one-left s g _ _ _ h k (i .0) t _ _ _ _)) (c .before .before .before .marks .given) (c .before .output .given)

@@ -53,10 +53,11 @@ rs-holds c = (omega arith, first-listed _ _ _ _ _ _ (λ s g h. refl))
 
 list-level-requires : tie.Need-list-level-requires Inv-rs μ-rs Inv-ls μ-ls
 list-level-requires c κs =
-    let p = c .before .before .before .before .before .before .before .before .pre in
+    let z = c .before .before in
+    let p = z .before .before .before .before .before .before .pre in
     let h = p .1 .1 in
-    let t = at-rs (c .before .before) in
-    (here (c .before .before), (p .0, (p .1 .0, counted-long _ _ _ _ _ _ (t .long) h, few-part _ _ _ _ _ _ t _ _ _ _ h (inR _ _ _ _ _ h _ _ _ _ (c .before .before .rs-test .taken)) (p .1 .2))))
+    let t = at-rs z in
+    (here z, (p .0, (p .1 .0, counted-long _ _ _ _ _ _ (t .long) h, few-part _ _ _ _ _ _ t _ _ _ _ h (inR _ _ _ _ _ h _ _ _ _ (z .rs-test .taken)) (p .1 .2))))
 
 add-r : tie.Need-add-r Inv-rs μ-rs Inv-ls μ-ls
 add-r c = search needs
@@ -66,9 +67,10 @@ rs-less c = search needs
 
 rs-again : tie.Need-rs-again Inv-rs μ-rs Inv-ls μ-ls
 rs-again c =
-    let i = c .before .before .before .before .before .before .before .before .rs .inv .1 in (
-      omega (arith, c .before .before .before .before .before .before .before .before .rs .inv .0),
-      part-listed _ _ _ _ _ _ i (level _ _ _ _) _ (λ s g h. inR s g _ _ _ h _ _ _ _ (c .before .before .before .before .before .before .before .rs-test .taken)) (c .before .before .before .marks .given) (c .before .output .given)
+    let z = c .before .before .before .before .before .before .before in
+    let i = z .before .rs .inv .1 in (
+      omega (arith, z .before .rs .inv .0),
+      part-listed _ _ _ _ _ _ i (level _ _ _ _) _ (λ s g h. inR s g _ _ _ h _ _ _ _ (z .rs-test .taken)) (c .before .before .before .marks .given) (c .before .output .given)
           (λ s g h. c .before .before .before .before .list-level .ensures s g (counted-long s g _ _ _ _ (i .long) h)),
     )
 

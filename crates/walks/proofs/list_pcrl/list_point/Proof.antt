@@ -50,6 +50,13 @@ abbrev μ-cs : tie.MeasureT-cs
 μ-cs marks₀ output₀ prep row w x y n resno0 resno1 compno1 count₀ best₀ c₀ marks output count best c =
     w .compno1 - c
 
+-- what was noted of the row, and the turn, from its end
+abbrev noted : tie.After-slice-known4 Inv-rs μ-rs Inv-cs μ-cs → tie.After-number-at Inv-rs μ-rs Inv-cs μ-cs
+noted c = c .before .before .before .before .before .before .before .before
+
+abbrev turned : tie.After-slice-known4 Inv-rs μ-rs Inv-cs μ-cs → tie.In-rs Inv-rs μ-rs Inv-cs μ-cs
+turned c = noted c .before
+
 -- the point is in the tile
 before-end : (c : tie.After-struct-known Inv-rs μ-rs Inv-cs μ-cs) → c .before .before .before .args .x < c .before .before .before .args .w .tx1
 before-end c = let d = c .before .before .before .pre .1 .1 in rw (d .ready .ranged .tx1) (d .point .right)
@@ -80,19 +87,21 @@ number-at-requires c κs =
 
 nearer-from-requires : tie.Need-nearer-from-requires Inv-rs μ-rs Inv-cs μ-cs
 nearer-from-requires c κs =
-    let p = c .before .before .before .before .before .before .before .before .pre in
-    (p .0, (_, point-part _ _ _ _ _ _ _ _ _ _ _ _ (c .number-at .ensures) (p .1 .1 .point) (c .before .before .rs .inv .0) (c .before .rs-test .taken) (c .before .before .before .before .cs .inv .0) (c .before .before .before .cs-test .taken) .start))
+    let z = c .before in
+    let p = z .before .before .before .before .before .before .before .pre in
+    (p .0, (_, point-part _ _ _ _ _ _ _ _ _ _ _ _ (c .number-at .ensures) (p .1 .1 .point) (z .before .rs .inv .0) (z .rs-test .taken) (z .before .before .before .cs .inv .0) (z .before .before .cs-test .taken) .start))
 
 list-cell-requires : tie.Need-list-cell-requires Inv-rs μ-rs Inv-cs μ-cs
 list-cell-requires c κs =
-    let p = c .before .before .before .before .before .before .before .before .before .before .before .pre in
+    let z = c .before .before .before .before in
+    let p = z .before .before .before .before .before .before .before .pre in
     let d = p .1 .1 in
-    let t = at-rs (c .before .before .before .before) in
-    let rt = c .before .before .before .before .rs-test .taken in (
+    let t = at-rs z in
+    let rt = z .rs-test .taken in (
       p .0,
       (
         p .1 .0,
-        pointed-cell _ _ _ _ _ _ _ _ (pointed-long _ _ _ _ _ _ _ _ d _ (t .long)) _ _ _ (c .before .before .before .number-at .ensures) (c .before .before .before .before .before .rs .inv .0) rt (c .before .before .before .before .before .before .before .cs .inv .0) (c .before .before .before .before .before .before .cs-test .taken),
+        pointed-cell _ _ _ _ _ _ _ _ (pointed-long _ _ _ _ _ _ _ _ d _ (t .long)) _ _ _ (c .before .before .before .number-at .ensures) (z .before .rs .inv .0) rt (z .before .before .before .cs .inv .0) (z .before .before .cs-test .taken),
         few-part _ _ _ _ _ _ t _ _ _ _ d (inR _ _ _ _ _ (d .ready) _ _ _ _ _ rt) (p .1 .2),
       ),
     )
@@ -105,12 +114,13 @@ rs-less c = search needs
 
 rs-again : tie.Need-rs-again Inv-rs μ-rs Inv-cs μ-cs
 rs-again c =
-    let i = c .before .before .before .before .before .before .before .before .before .before .rs .inv in
-    let o = c .before .before .before .before .before .before .before .before .before .before .before .before .cs in
-    let rt = c .before .before .before .before .before .before .before .before .before .rs-test .taken in
-    let ct = c .before .before .before .before .before .before .before .before .before .before .before .cs-test .taken in
-    let first = c .before .before .before .before .before .before .before .before .number-at .ensures in
-    let p = c .before .before .before .before .before .before .before .before .before .before .before .before .before .before .before .before .pre in (
+    let z = turned c in
+    let i = z .before .rs .inv in
+    let o = z .before .before .before .cs in
+    let rt = z .rs-test .taken in
+    let ct = z .before .before .cs-test .taken in
+    let first = noted c .number-at .ensures in
+    let p = z .before .before .before .before .before .before .before .pre in (
       omega (arith, i .0),
       omega (arith, rt),
       part-listed _ _ _ _ _ _ (i .2) (cellFrom _ _ _ _ _) _ (λ s g h. inR s g _ _ _ (h .ready) _ _ _ _ _ rt) (c .before .before .before .marks .given) (c .before .output .given)
@@ -137,8 +147,8 @@ cs-again c =
       nearest-leave (i .3) (o .0) (i .0) (i .1) rl,
     )
 
-add-t23 : tie.Need-add-t23 Inv-rs μ-rs Inv-cs μ-cs
-add-t23 c = omega (arith, c .before .cs .inv .3 .within)
+add-t24 : tie.Need-add-t24 Inv-rs μ-rs Inv-cs μ-cs
+add-t24 c = omega (arith, c .before .cs .inv .3 .within)
 
 same-length : tie.Need-same-length Inv-rs μ-rs Inv-cs μ-cs
 same-length c = c .before .cs .inv .2 .long
@@ -174,7 +184,7 @@ list-point-spec =
     add-c
     cs-less
     cs-again
-    add-t23
+    add-t24
     same-length
     same-length-2
     returns)

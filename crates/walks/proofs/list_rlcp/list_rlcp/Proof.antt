@@ -53,10 +53,11 @@ ls-holds c = first-listed _ _ _ _ _ _ (λ s g h. refl)
 
 list-level-requires : tie.Need-list-level-requires Inv-ls μ-ls Inv-rs μ-rs
 list-level-requires c κs =
-    let p = c .before .before .before .before .before .before .before .before .pre in
+    let z = c .before .before in
+    let p = z .before .before .before .before .before .before .pre in
     let h = p .1 .1 in
-    let t = at-ls (c .before .before) in
-    (here (c .before .before), (p .0, (p .1 .0, counted-long _ _ _ _ _ _ (t .long) h, few-part _ _ _ _ _ _ t _ _ _ _ h (inL _ _ _ _ _ h _ _ _ _ (c .before .before .ls-test .taken)) (p .1 .2))))
+    let t = at-ls z in
+    (here z, (p .0, (p .1 .0, counted-long _ _ _ _ _ _ (t .long) h, few-part _ _ _ _ _ _ t _ _ _ _ h (inL _ _ _ _ _ h _ _ _ _ (z .ls-test .taken)) (p .1 .2))))
 
 add-l : tie.Need-add-l Inv-ls μ-ls Inv-rs μ-rs
 add-l c = search needs
@@ -66,8 +67,9 @@ ls-less c = search needs
 
 ls-again : tie.Need-ls-again Inv-ls μ-ls Inv-rs μ-rs
 ls-again c =
-    let i = c .before .before .before .before .before .before .before .before .ls .inv in
-    part-listed _ _ _ _ _ _ i (level _ _ _ _) _ (λ s g h. inL s g _ _ _ h _ _ _ _ (c .before .before .before .before .before .before .before .ls-test .taken)) (c .before .before .before .marks .given) (c .before .output .given)
+    let z = c .before .before .before .before .before .before .before in
+    let i = z .before .ls .inv in
+    part-listed _ _ _ _ _ _ i (level _ _ _ _) _ (λ s g h. inL s g _ _ _ h _ _ _ _ (z .ls-test .taken)) (c .before .before .before .marks .given) (c .before .output .given)
     (λ s g h. c .before .before .before .before .list-level .ensures s g (counted-long s g _ _ _ _ (i .long) h))
 
 add-r : tie.Need-add-r Inv-ls μ-ls Inv-rs μ-rs

@@ -30,9 +30,10 @@ part-requires c κs = search needs
 
 list-pcrl-requires : tie.Need-list-pcrl-requires Inv-rs μ-rs
 list-pcrl-requires c κs =
-    let p = c .before .before .before .before .before .before .before .before .pre .1 in
-    let i = c .before .before .before .before .before .rs .inv in
-    let t = c .before .before .before .before .rs-test .taken in
+    let z = c .before .before .before .before in
+    let p = z .before .before .before .before .pre .1 in
+    let i = z .before .rs .inv in
+    let t = z .rs-test .taken in
     let h = p .1 .1 in
     rw (c .before .before .before .part .ensures) (
       i .1,
@@ -47,11 +48,12 @@ rs-less c = search needs
 
 rs-again : tie.Need-rs-again Inv-rs μ-rs
 rs-again c =
-    let one = c .before .before .before .before .before .before .before .before .part in
-    let r = c .before .before .before .before .before .before .before .before .before .before .rs .r in
-    let i = c .before .before .before .before .before .before .before .before .before .before .rs .inv in
-    let t = c .before .before .before .before .before .before .before .before .before .rs-test .taken in
-    let listed = c .before .before .before .before .list-pcrl .ensures in (
+    let z = c .before .before .before .before in
+    let one = z .before .before .before .before .part in
+    let r = z .before .before .before .before .before .before .rs .r in
+    let i = z .before .before .before .before .before .before .rs .inv in
+    let t = z .before .before .before .before .before .rs-test .taken in
+    let listed = z .list-pcrl .ensures in (
       omega (arith, i .0),
       listed .0,
       part-listed _ _ _ _ _ _ (i .2) (λ s g. pcrl.wholly (one .result) s (alone g r)) _ (λ s g h. rw (one .ensures) (one-left s g _ _ _ h r (i .0) t _ _ _ _)) (c .before .before .before .marks .given) (c .before .output .given)

@@ -1,106 +1,205 @@
--- `lrcp` meets its contract: what is left where each of the two loops stands answers as what was to be searched at entry. A turn is one law of specs/Lrcp: one
--- resolution of one layer is searched (`search_level`), and the rest is left. Assumes nothing.
+-- `lrcp` meets its contract. Each of the four loops keeps one thing, for every sheet and range that the walk is counted for (`Kept`): nothing is found yet, and
+-- what is left at this loop answers as what was to be searched at entry. A turn is one law of specs/Lrcp or specs/Counts: LOOP-holds is an `in` law, LOOP-again
+-- the `out` law of the inner loop. Assumes nothing.
 use borrow.Author.Needs.{needs}
-use mathlib.Core.Path.{_≡_, refl, sym, ap, _∙_}
-use Prim.Native.Nat.{_+_, _-_, _≤_}
+use mathlib.Core.Path.{_≡_}
+use mathlib.Core.Bool.{Bool, true, false}
+use mathlib.Core.List.{List, _∷_}
+use Prim.Native.Nat.{ℕ, _+_, _-_, _≤_}
 use native.Mathlib.Omega.{arith}
-use denote.Ref.{now}
-use Rattle.laws.specs.Runs.{orElse, seek}
+use Rattle.laws.specs.Marks.{freeAt}
 use Rattle.packets.specs.Tile.{Sheet, indexOf}
-use Rattle.packets.specs.Orders.{Range}
-use Rattle.walks.specs.Walk.{answerOf, Counted}
-use Rattle.walks.specs.Going.{Alike, part-searched}
-use Rattle.walks.specs.Counts.{level}
+use Rattle.types.specs.declared.order.Range.{Range}
+use Rattle.walks.specs.Walk.{Counted}
+use Rattle.walks.specs.Going.{Going, Rest, _then_, starts, onward, splits, ends, turns, leaves, passes, finds}
+use Rattle.walks.specs.Counts.{placeOf, level, leftK, inC, outC, outK, Stands, held, count-is, mark-fits, mark-read}
 use Rattle.walks.specs.Lrcp.{entry, leftR, inL, outL, inR, outR}
+use Rattle.walks.specs.declared.walk.Walk.{Walk}
+use Rattle.walks.specs.declared.walk.Found.{Found}
 use Rattle.walks.proofs.lrcp.lrcp.Statement.{statement}
 use Rattle.walks.proofs.lrcp.lrcp.Tie as tie
 
+-- nothing is found yet, and the rest answers as the whole at entry
+abbrev Kept : List ℕ → List ℕ → Walk → ℕ → ℕ → ℕ → ℕ → Found → Rest → Type 0
+Kept marks counts w l r c k found rest = Going (λ s g. Counted s g counts w marks) marks (entry l r c k) found rest
+
+abbrev Inv-ks : tie.InvT-ks
+Inv-ks marks counts w l-from r-from c-from k-from layno1 resno0 resno1 compno0 compno1 r-at c-at k-at found₀ l r c count k₀ found k =
+    Kept marks counts w l-from r-from c-from k-from found (leftK l r c k then leftR w l (r + 1) (w .compno0) 0)
+
+abbrev μ-ks : tie.MeasureT-ks
+μ-ks marks counts w l-from r-from c-from k-from layno1 resno0 resno1 compno0 compno1 r-at c-at k-at found₀ l r c count k₀ found k =
+    count - k
+
+abbrev Inv-cs : tie.InvT-cs
+Inv-cs marks counts w l-from r-from c-from k-from layno1 resno0 resno1 compno0 compno1 r-at c-at k-at₀ found₀ l r c₀ k-at found c =
+    (w .compno0 ≤ c) × Kept marks counts w l-from r-from c-from k-from found (level l r c k-at then leftR w l (r + 1) (w .compno0) 0)
+
+abbrev μ-cs : tie.MeasureT-cs
+μ-cs marks counts w l-from r-from c-from k-from layno1 resno0 resno1 compno0 compno1 r-at c-at k-at₀ found₀ l r c₀ k-at found c =
+    w .compno1 - c
+
 abbrev Inv-rs : tie.InvT-rs
-Inv-rs marks counts w l-from r-from c-from k-from layno1 resno0 resno1 compno0 r-at c-at₀ k-at₀ l r₀ c-at k-at r =
-    (w .resno0 ≤ r) × (w .compno0 ≤ c-at) × Alike (λ s g. Counted s g counts w marks) marks (entry l-from r-from c-from k-from) (leftR w l r c-at k-at)
+Inv-rs marks counts w l-from r-from c-from k-from layno1 resno0 resno1 compno0 compno1 r-at c-at₀ k-at₀ found₀ l r₀ c-at k-at found r =
+    (w .resno0 ≤ r) × (w .compno0 ≤ c-at) × Kept marks counts w l-from r-from c-from k-from found (leftR w l r c-at k-at)
 
 abbrev μ-rs : tie.MeasureT-rs
-μ-rs marks counts w l-from r-from c-from k-from layno1 resno0 resno1 compno0 r-at c-at₀ k-at₀ l r₀ c-at k-at r =
+μ-rs marks counts w l-from r-from c-from k-from layno1 resno0 resno1 compno0 compno1 r-at c-at₀ k-at₀ found₀ l r₀ c-at k-at found r =
     w .resno1 - r
 
-abbrev Inv-ls : tie.InvT-ls
-Inv-ls marks counts w l-from r-from c-from k-from layno1 resno0 resno1 compno0 r-at₀ c-at₀ k-at₀ l₀ r-at c-at k-at l =
-    (w .resno0 ≤ r-at) × (w .compno0 ≤ c-at) × Alike (λ s g. Counted s g counts w marks) marks (entry l-from r-from c-from k-from) (entry l r-at c-at k-at)
+abbrev Inv-search : tie.InvT-search
+Inv-search marks counts w l-from r-from c-from k-from layno1 resno0 resno1 compno0 compno1 r-at₀ c-at₀ k-at₀ found₀ l₀ r-at c-at k-at found l =
+    (w .resno0 ≤ r-at) × (w .compno0 ≤ c-at) × Kept marks counts w l-from r-from c-from k-from found (entry l r-at c-at k-at)
 
-abbrev μ-ls : tie.MeasureT-ls
-μ-ls marks counts w l-from r-from c-from k-from layno1 resno0 resno1 compno0 r-at₀ c-at₀ k-at₀ l₀ r-at c-at k-at l =
+abbrev μ-search : tie.MeasureT-search
+μ-search marks counts w l-from r-from c-from k-from layno1 resno0 resno1 compno0 compno1 r-at₀ c-at₀ k-at₀ found₀ l₀ r-at c-at k-at found l =
     w .layno1 - l
 
--- what was to be searched at entry answers as the resolution at which the loops stand, or else as what is left behind it
-searched : (c : tie.After-search-level Inv-rs μ-rs Inv-ls μ-ls) (s : Sheet) (g : Range)
-    → (let a = c .before .before .before .before .before .before .args in Counted s g (now (a .counts)) (a .w) (now (a .marks))
-    → seek (indexOf (s .st)) (now (a .marks)) (entry (a .l-from) (a .r-from) (a .c-from) (a .k-from) s g)
-    ≡ orElse (answerOf (c .search-level .result)) (seek (indexOf (s .st)) (now (a .marks)) (leftR (a .w) (c .before .before .before .before .ls .l) (c .before .before .rs .r + 1) (a .w .compno0) 0 s g)))
-searched c =
-    let w = c .before .before .before .before .before .before .args .w in
-    let i = c .before .before .rs in
-    part-searched _ _ _ _ (level _ _ _ _) (leftR w (c .before .before .before .before .ls .l) (i .r + 1) (w .compno0) 0) (c .search-level .result) (i .inv .2)
-    (λ s g h. (inR s g _ _ _ h _ _ _ _ (c .before .rs-test .taken), c .search-level .ensures s g h))
+-- where the function starts, and the turns of layers and resolutions in which one of the components is
+abbrev start : tie.In-cs Inv-ks μ-ks Inv-cs μ-cs Inv-rs μ-rs Inv-search μ-search → tie.Start Inv-ks μ-ks Inv-cs μ-cs Inv-rs μ-rs Inv-search μ-search
+start c = c .before .before .before .before .before .before .before
 
-ls-holds : tie.Need-ls-holds Inv-rs μ-rs Inv-ls μ-ls
-ls-holds c = let p = c .before .pre .1 in (p .0, p .1, λ s g h. refl)
+abbrev at-l : tie.In-cs Inv-ks μ-ks Inv-cs μ-cs Inv-rs μ-rs Inv-search μ-search → tie.In-search Inv-ks μ-ks Inv-cs μ-cs Inv-rs μ-rs Inv-search μ-search
+at-l c = c .before .before .before .before
 
-rs-holds : tie.Need-rs-holds Inv-rs μ-rs Inv-ls μ-ls
-rs-holds c = let i = c .before .ls .inv in (i .0, i .1, λ s g h. i .2 s g h ∙ ap (seek _ _) (inL s g _ _ _ h _ _ _ _ (c .ls-test .taken)))
+abbrev at-r : tie.In-cs Inv-ks μ-ks Inv-cs μ-cs Inv-rs μ-rs Inv-search μ-search → tie.In-rs Inv-ks μ-ks Inv-cs μ-cs Inv-rs μ-rs Inv-search μ-search
+at-r c = c .before .before
 
-search-level-requires : tie.Need-search-level-requires Inv-rs μ-rs Inv-ls μ-ls
-search-level-requires c κs =
-    (record { layer = c .before .before .ls-test .taken; res-from = c .before .rs .inv .0; res-to = c .rs-test .taken }, c .before .rs .inv .1, c .before .before .before .before .before .pre .0)
+-- the walk is counted for a sheet and a range
+abbrev CountedIn : tie.In-cs Inv-ks μ-ks Inv-cs μ-cs Inv-rs μ-rs Inv-search μ-search → Sheet → Range → Type 0
+CountedIn c s g = let a = start c .args in Counted s g (a .counts .now) (a .w) (a .marks .now)
 
-enum-known-place : tie.Need-enum-known-place Inv-rs μ-rs Inv-ls μ-ls
-enum-known-place c = search needs
+-- the numbers of the loops stand inside the ranges
+stands : (c : tie.In-cs Inv-ks μ-ks Inv-cs μ-cs Inv-rs μ-rs Inv-search μ-search)
+    → Stands (start c .args .w) (at-l c .before .search .l) (at-r c .before .rs .r) (c .before .cs .c)
+stands c =
+    record {
+      level = record { layer = at-l c .search-test .taken; res-from = at-r c .before .rs .inv .0; res-to = at-r c .rs-test .taken };
+      comp-from = c .before .cs .inv .0;
+      comp-to = c .cs-test .taken;
+    }
 
-returns : tie.Need-returns Inv-rs μ-rs Inv-ls μ-ls
-returns c s g h = let e = searched (c .before .before .before) s g h in sym (rw (c .before .place .given .1) at e)
+-- a precinct is the next, and what is read of its mark is what the sheet's index finds
+read-here : (c : tie.After-is-free Inv-ks μ-ks Inv-cs μ-cs Inv-rs μ-rs Inv-search μ-search) (s : Sheet) (g : Range)
+    → (let d = c .before .before .before .before .before in
+    let l = at-l d .before .search .l in
+    let r = at-r d .before .rs .r in
+    let i = d .before .cs .c in
+    let k = c .before .before .before .ks .k in
+    CountedIn d s g → (t : Bool) → c .is-free .result ≡ t
+    → (leftK l r i k s g ≡ placeOf l r i k ∷ leftK l r i (k + 1) s g) × (freeAt (start d .args .marks .now) (indexOf (s .st) (placeOf l r i k)) ≡ t))
+read-here c s g h t e =
+    mark-read s g _ _ _ h _ _ _ (stands (c .before .before .before .before .before)) _ (c .before .before .before .before .number-at .ensures) _ (c .before .before .ks-test .taken)
+    _ _ _ (c .before .index .ensures) (c .is-free .ensures) e
 
-enum-told : tie.Need-enum-told Inv-rs μ-rs Inv-ls μ-ls
-enum-told c = search needs
+search-holds : tie.Need-search-holds Inv-ks μ-ks Inv-cs μ-cs Inv-rs μ-rs Inv-search μ-search
+search-holds c = let p = c .before .pre .1 in (p .0, p .1, starts _ _ _)
 
-add-r : tie.Need-add-r Inv-rs μ-rs Inv-ls μ-ls
+rs-holds : tie.Need-rs-holds Inv-ks μ-ks Inv-cs μ-cs Inv-rs μ-rs Inv-search μ-search
+rs-holds c = let i = c .before .search .inv in (i .0, i .1, onward _ _ _ _ (i .2) _ (λ s g h. inL s g _ _ _ h _ _ _ _ (c .search-test .taken)))
+
+cs-holds : tie.Need-cs-holds Inv-ks μ-ks Inv-cs μ-cs Inv-rs μ-rs Inv-search μ-search
+cs-holds c = let i = c .before .rs .inv in (i .1, splits _ _ _ _ (i .2) _ _ (λ s g h. inR s g _ _ _ h _ _ _ _ (c .rs-test .taken)))
+
+number-at-requires :
+    tie.Need-number-at-requires Inv-ks μ-ks Inv-cs μ-cs Inv-rs μ-rs Inv-search μ-search
+number-at-requires c κs = let p = start c .pre .0 in held (p .0) (p .1 .0) _ _ _ (p .1 .1) _ _ _ (stands c)
+
+ks-holds : tie.Need-ks-holds Inv-ks μ-ks Inv-cs μ-cs Inv-rs μ-rs Inv-search μ-search
+ks-holds c = turns _ _ _ _ _ (c .before .before .cs .inv .1) _ (λ s g h. inC s g _ _ _ _ (rw (h .ranged .compno1) at (c .before .cs-test .taken)))
+
+index-requires : tie.Need-index-requires Inv-ks μ-ks Inv-cs μ-cs Inv-rs μ-rs Inv-search μ-search
+index-requires c κs =
+    let d = c .before .before .before in
+    let p = start d .pre .0 in
+    mark-fits (p .0) (p .1 .0) _ _ _ (p .1 .1) _ _ _ (stands d) _ (c .before .before .number-at .ensures) _ (c .ks-test .taken)
+
+is-free-requires :
+    tie.Need-is-free-requires Inv-ks μ-ks Inv-cs μ-cs Inv-rs μ-rs Inv-search μ-search
+is-free-requires c κs = search needs
+
+add-k : tie.Need-add-k Inv-ks μ-ks Inv-cs μ-cs Inv-rs μ-rs Inv-search μ-search
+add-k c = search needs
+
+ks-less : tie.Need-ks-less Inv-ks μ-ks Inv-cs μ-cs Inv-rs μ-rs Inv-search μ-search
+ks-less c = search needs
+
+ks-again : tie.Need-ks-again Inv-ks μ-ks Inv-cs μ-cs Inv-rs μ-rs Inv-search μ-search
+ks-again c = passes _ _ _ _ _ (c .before .before .before .before .ks .inv) _ _ (λ s g h. read-here (c .before) s g h false (c .if1 .left))
+
+add-c : tie.Need-add-c Inv-ks μ-ks Inv-cs μ-cs Inv-rs μ-rs Inv-search μ-search
+add-c c = search needs
+
+cs-less : tie.Need-cs-less Inv-ks μ-ks Inv-cs μ-cs Inv-rs μ-rs Inv-search μ-search
+cs-less c = search needs
+
+cs-again : tie.Need-cs-again Inv-ks μ-ks Inv-cs μ-cs Inv-rs μ-rs Inv-search μ-search
+cs-again c = (
+  omega (arith, c .before .before .before .before .cs .inv .0),
+  turns _ _ _ _ _ (c .before .ks .inv) _
+      (λ s g h. outK s g _ _ _ _ (rw (count-is s g _ _ _ h _ _ _ (stands (c .before .before .before)) _ (c .before .before .number-at .ensures)) at (c .ks-test .left))),
+)
+
+add-r : tie.Need-add-r Inv-ks μ-ks Inv-cs μ-cs Inv-rs μ-rs Inv-search μ-search
 add-r c = search needs
 
-rs-less : tie.Need-rs-less Inv-rs μ-rs Inv-ls μ-ls
+rs-less : tie.Need-rs-less Inv-ks μ-ks Inv-cs μ-cs Inv-rs μ-rs Inv-search μ-search
 rs-less c = search needs
 
-rs-again : tie.Need-rs-again Inv-rs μ-rs Inv-ls μ-ls
-rs-again c = (omega (arith, c .before .before .before .before .rs .inv .0), omega arith, λ s g h. let e = searched (c .before .before) s g h in rw (c .enum-told .given .1) at e)
+rs-again : tie.Need-rs-again Inv-ks μ-ks Inv-cs μ-cs Inv-rs μ-rs Inv-search μ-search
+rs-again c = (
+  omega (arith, c .before .before .before .rs .inv .0),
+  omega arith,
+  leaves _ _ _ _ _ (c .before .cs .inv .1) (λ s g h. outC s g _ _ _ _ (rw (h .ranged .compno1) at (c .cs-test .left))),
+)
 
-add-l : tie.Need-add-l Inv-rs μ-rs Inv-ls μ-ls
+add-l : tie.Need-add-l Inv-ks μ-ks Inv-cs μ-cs Inv-rs μ-rs Inv-search μ-search
 add-l c = search needs
 
-ls-less : tie.Need-ls-less Inv-rs μ-rs Inv-ls μ-ls
-ls-less c = search needs
+search-less : tie.Need-search-less Inv-ks μ-ks Inv-cs μ-cs Inv-rs μ-rs Inv-search μ-search
+search-less c = search needs
 
-ls-again : tie.Need-ls-again Inv-rs μ-rs Inv-ls μ-ls
-ls-again c = (omega arith, omega arith, λ s g h. c .before .rs .inv .2 s g h ∙ ap (seek _ _) (outR s g _ _ _ h _ _ _ _ (c .rs-test .left)))
+search-again : tie.Need-search-again Inv-ks μ-ks Inv-cs μ-cs Inv-rs μ-rs Inv-search μ-search
+search-again c = (omega arith, omega arith, onward _ _ _ _ (c .before .rs .inv .2) _ (λ s g h. outR s g _ _ _ h _ _ _ _ (c .rs-test .left)))
 
-returns-2 : tie.Need-returns-2 Inv-rs μ-rs Inv-ls μ-ls
-unfolding seek
-returns-2 c s g h = sym (c .before .ls .inv .2 s g h ∙ ap (seek _ _) (outL s g _ _ _ h _ _ _ _ (c .ls-test .left)))
+-- left by the outermost test: nothing is left
+returns : tie.Need-returns Inv-ks μ-ks Inv-cs μ-cs Inv-rs μ-rs Inv-search μ-search
+returns c = ends _ _ _ _ (c .before .search .inv .2) (λ s g h. outL s g _ _ _ h _ _ _ _ (c .search-test .left))
+
+-- left by the break: what is free is found
+returns-2 : tie.Need-returns-2 Inv-ks μ-ks Inv-cs μ-cs Inv-rs μ-rs Inv-search μ-search
+returns-2 c = finds _ _ _ _ _ (c .before .before .before .before .ks .inv) _ _ (λ s g h. read-here (c .before) s g h true (c .if1 .taken))
 
 pub lrcp-spec : {M : Type 1} → statement M
 lrcp-spec =
     tie.close
     (tie.spec
+    Inv-ks
+    μ-ks
+    Inv-cs
+    μ-cs
     Inv-rs
     μ-rs
-    Inv-ls
-    μ-ls
-    ls-holds
+    Inv-search
+    μ-search
+    search-holds
     rs-holds
-    search-level-requires
-    enum-known-place
-    returns
-    enum-told
+    cs-holds
+    number-at-requires
+    ks-holds
+    index-requires
+    is-free-requires
+    add-k
+    ks-less
+    ks-again
+    add-c
+    cs-less
+    cs-again
     add-r
     rs-less
     rs-again
     add-l
-    ls-less
-    ls-again
+    search-less
+    search-again
+    returns
     returns-2)

@@ -1,76 +1,33 @@
--- `prepare_entry`: the seven numbers are written as in the definition, from the words of the entry. Assumes nothing.
-use Rattle.walks.specs.Prepare.{putEntry}
-use native.Mathlib.Omega.{arith}
+-- `prepare_entry`: the seven numbers are those of the definition. Assumes nothing.
 use borrow.Author.Needs.{needs}
 use Rattle.walks.proofs.prepare.prepare_entry.Statement.{statement}
 use Rattle.walks.proofs.prepare.prepare_entry.Tie as tie
 
-word-at-requires : tie.Need-word-at-requires
-word-at-requires c κs = search needs
-
-add-word-at : tie.Need-add-word-at
-add-word-at c = search needs
-
-word-at-requires-2 : tie.Need-word-at-requires-2
-word-at-requires-2 c κs = search needs
-
-add-word-at-2 : tie.Need-add-word-at-2
-add-word-at-2 c = search needs
-
-word-at-requires-3 : tie.Need-word-at-requires-3
-word-at-requires-3 c κs = search needs
-
-add-word-at-3 : tie.Need-add-word-at-3
-add-word-at-3 c = search needs
-
-word-at-requires-4 : tie.Need-word-at-requires-4
-word-at-requires-4 c κs = search needs
-
 mul-shown : tie.Need-mul-shown
-mul-shown c = rw (c .word-at4 .ensures, c .before .word-at3 .ensures) (omega (arith, c .before .before .before .before .before .pre .0 .few))
+mul-shown c = search needs
 
 shown-requires : tie.Need-shown-requires
 shown-requires c κs = search needs
 
-mul-prep : tie.Need-mul-prep
-mul-prep c = search needs
+along-requires : tie.Need-along-requires
+along-requires c κs = search needs
 
-element-write-prep : tie.Need-element-write-prep
-element-write-prep c = search needs
+along-requires-2 : tie.Need-along-requires-2
+along-requires-2 c κs = search needs
 
-add-prepare-axis : tie.Need-add-prepare-axis
-add-prepare-axis c = search needs
-
-prepare-axis-requires : tie.Need-prepare-axis-requires
-prepare-axis-requires c κs = search needs
-
-add-prepare-axis-2 : tie.Need-add-prepare-axis-2
-add-prepare-axis-2 c = search needs
-
-prepare-axis-requires-2 : tie.Need-prepare-axis-requires-2
-prepare-axis-requires-2 c κs = search needs
+put-numbers-requires : tie.Need-put-numbers-requires
+put-numbers-requires c κs = search needs
 
 returns : tie.Need-returns
-unfolding putEntry
-returns c = rw (c .prepare-axis2 .ensures, c .before .before .prepare-axis .ensures, c .before .before .before .before .shown .ensures, c .before .before .before .before .before .word-at4 .ensures, c .before .before .before .before .before .before .word-at3 .ensures, c .before .before .before .before .before .before .before .word-at2 .ensures, c .before .before .before .before .before .before .before .before .word-at .ensures)
+returns c = rw (c .put-numbers .ensures, c .before .along2 .ensures, c .before .before .along .ensures, c .before .before .before .before .shown .ensures)
 
 pub prepare-entry-spec : {M : Type 1} → statement M
 prepare-entry-spec =
     tie.close
     (tie.spec
-    word-at-requires
-    add-word-at
-    word-at-requires-2
-    add-word-at-2
-    word-at-requires-3
-    add-word-at-3
-    word-at-requires-4
     mul-shown
     shown-requires
-    mul-prep
-    element-write-prep
-    add-prepare-axis
-    prepare-axis-requires
-    add-prepare-axis-2
-    prepare-axis-requires-2
+    along-requires
+    along-requires-2
+    put-numbers-requires
     returns)

@@ -1,17 +1,17 @@
 -- `fill_row`: what the two loops have passed is noted, and y + best is the least next multiple of it, for every sheet that is so prepared; at their end all is.
 -- Assumes nothing.
-use Rattle.walks.specs.RowLaws.{row-part, Noted, note-none, note-enter, note-more, note-leave, note-all}
-use Rattle.walks.specs.Nexts.{NearestBefore, NearestSeen, nearest-first, nearest-enter, nearest-turn, nearest-leave, nearest-all}
-use Rattle.walks.specs.InRow.{AtRow, Row}
-use Rattle.walks.specs.Turns.{play-part}
-use Rattle.packets.specs.Grid.{stepY}
-use Rattle.packets.specs.InPlay.{playY}
-use Rattle.packets.specs.Tile.{Sheet}
-use Prim.Native.Nat.{_+_, _-_, _*_, _≤_, _<_, max}
 use mathlib.Core.Path.{_≡_, _∙_}
+use Prim.Native.Nat.{_+_, _-_, _*_, _≤_, _<_, max}
+use native.Mathlib.Omega.{arith}
 use lib.ListN.{length, length-set}
 use denote.Ref.{now}
-use native.Mathlib.Omega.{arith}
+use Rattle.packets.specs.Tile.{Sheet}
+use Rattle.packets.specs.Grid.{stepY}
+use Rattle.packets.specs.InPlay.{playY}
+use Rattle.walks.specs.InRow.{AtRow, Row}
+use Rattle.walks.specs.Turns.{play-part}
+use Rattle.walks.specs.Nexts.{NearestBefore, NearestSeen, nearest-first, nearest-enter, nearest-turn, nearest-leave, nearest-all}
+use Rattle.walks.specs.RowLaws.{row-part, Noted, note-none, note-enter, note-more, note-leave, note-all}
 use Rattle.walks.proofs.row.fill_row.Statement.{statement}
 use Rattle.walks.proofs.row.fill_row.Tie as tie
 
@@ -32,6 +32,10 @@ Inv-cs row₀ prep r0 r1 c0 c1 y end best₀ c₀ row best c =
 
 abbrev μ-cs : tie.MeasureT-cs
 μ-cs row₀ prep r0 r1 c0 c1 y end best₀ c₀ row best c = c1 - c
+
+-- the function's entry, from the end of a turn
+abbrev entered : tie.After-put-number Inv-rs μ-rs Inv-cs μ-cs → tie.Start Inv-rs μ-rs Inv-cs μ-cs
+entered c = c .before .before .before .before .before .before .before .before
 
 sub-best : tie.Need-sub-best Inv-rs μ-rs Inv-cs μ-cs
 sub-best c = omega arith
@@ -54,26 +58,11 @@ nearer-row-requires c κs =
 
 row-at-requires : tie.Need-row-at-requires Inv-rs μ-rs Inv-cs μ-cs
 row-at-requires c κs =
-    let w = c .before .before .before .before .before .pre .2 in
+    let w = c .before .before .before .before .before .before .pre .2 in
     (w .0, row-part (w .0) _ _ _ _ _ _ _ _ (w .1) (omega arith) (omega arith) (omega arith) (omega arith))
 
-cast-row : tie.Need-cast-row Inv-rs μ-rs Inv-cs μ-cs
-cast-row c = let k = c .before .before .before .before .before .before .pre .2 .1 .play in omega (arith, k .resolutions, k .components)
-
-mul-row : tie.Need-mul-row Inv-rs μ-rs Inv-cs μ-cs
-mul-row c = let k = c .before .before .before .before .before .before .pre .2 .1 .play in omega (arith, k .resolutions, k .components)
-
-cast-row-2 : tie.Need-cast-row-2 Inv-rs μ-rs Inv-cs μ-cs
-cast-row-2 c = let k = c .before .before .before .before .before .before .pre .2 .1 .play in omega (arith, k .resolutions, k .components)
-
-add-row : tie.Need-add-row Inv-rs μ-rs Inv-cs μ-cs
-add-row c = let k = c .before .before .before .before .before .before .pre .2 .1 .play in omega (arith, k .resolutions, k .components)
-
-mul-row-2 : tie.Need-mul-row-2 Inv-rs μ-rs Inv-cs μ-cs
-mul-row-2 c = let k = c .before .before .before .before .before .before .pre .2 .1 .play in omega (arith, k .resolutions, k .components)
-
-element-write-row : tie.Need-element-write-row Inv-rs μ-rs Inv-cs μ-cs
-element-write-row c = let k = c .before .before .before .before .before .before .pre .2 .1 .play in omega (arith, k .resolutions, k .components)
+put-number-requires : tie.Need-put-number-requires Inv-rs μ-rs Inv-cs μ-cs
+put-number-requires c κs = let k = c .before .before .before .before .before .before .before .pre .2 .1 .play in (omega (arith, k .resolutions), omega (arith, k .components))
 
 add-r : tie.Need-add-r Inv-rs μ-rs Inv-cs μ-cs
 add-r c = omega arith
@@ -83,19 +72,22 @@ rs-less c = omega arith
 
 rs-again : tie.Need-rs-again Inv-rs μ-rs Inv-cs μ-cs
 rs-again c =
-    let a = c .before .before .before .before .before .before .args in
-    let w = c .before .before .before .before .before .before .pre .2 in
+    let z = entered c in
+    let a = z .args in
+    let w = z .pre .2 in
     let k = w .1 .play in
-    let o = c .before .before .before .before .before .cs in
-    let i = c .before .before .before .rs in
+    let o = c .before .before .before .before .before .before .before .cs in
+    let i = c .before .before .before .before .before .rs in
+    let v = c .before .row-at .result in
     let room : 16 * i .r + o .c < length (i .row) = omega (arith, k .resolutions, k .components, i .inv .2) in
     let at : (s : Sheet) → AtRow s (now (a .prep)) (a .r0) (a .r1) (a .c0) (a .c1) (a .y) → AtRow s (now (a .prep)) (i .r) (i .r + 1) (o .c) (o .c + 1) (a .y)
-    = λ s h. row-part s _ _ _ _ _ _ _ _ h (omega arith) (omega arith) (omega arith) (omega arith) in (
+    = λ s h. row-part s _ _ _ _ _ _ _ _ h (omega arith) (omega arith) (omega arith) (omega arith) in
+    rw (c .put-number .ensures) (
       omega arith,
       omega arith,
-      length-set (i .row) (16 * i .r + o .c) (c .row-at .result) ∙ i .inv .2,
-      (λ s h. note-more s (i .row) (a .r0) (a .r1) (a .c0) (o .c) (a .y) (i .r) (c .row-at .result) room (omega (arith, k .components)) (c .row-at .ensures s (at s h)) (i .inv .3 s h)),
-      nearest-turn _ (i .inv .4) (i .inv .0) (w .0) (w .1) (λ s h. c .before .nearer-row .ensures s (at s h .play)),
+      length-set (i .row) (16 * i .r + o .c) v ∙ i .inv .2,
+      (λ s h. note-more s (i .row) (a .r0) (a .r1) (a .c0) (o .c) (a .y) (i .r) v room (omega (arith, k .components)) (c .before .row-at .ensures s (at s h)) (i .inv .3 s h)),
+      nearest-turn _ (i .inv .4) (i .inv .0) (w .0) (w .1) (λ s h. c .before .before .before .nearer-row .ensures s (at s h .play)),
     )
 
 add-c : tie.Need-add-c Inv-rs μ-rs Inv-cs μ-cs
@@ -141,12 +133,7 @@ fill-row-spec =
     rs-holds
     nearer-row-requires
     row-at-requires
-    cast-row
-    mul-row
-    cast-row-2
-    add-row
-    mul-row-2
-    element-write-row
+    put-number-requires
     add-r
     rs-less
     rs-again

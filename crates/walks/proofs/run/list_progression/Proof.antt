@@ -1,36 +1,66 @@
--- `list_progression`: an order by points has its own listing; any other is listed by its counts. Assumes nothing.
-use mathlib.Core.Path.{_≡_}
-use native.Mathlib.Omega.{arith}
-use Rattle.walks.specs.ByOrder.{not-pointed, by-points, few-of, listed-of}
+-- `list_progression`: each order has its listing, and without one nothing is listed. Assumes nothing.
 use borrow.Author.Needs.{needs}
+use mathlib.Core.Path.{refl, ap}
+use Rattle.types.specs.Orders.{byPoints}
+use Rattle.walks.specs.Search.{some}
+use Rattle.walks.specs.Plan.{planned-counted, planned-ready}
+use Rattle.walks.specs.ByOrder.{none-listed, few-of, listed-of}
 use Rattle.walks.proofs.run.list_progression.Statement.{statement}
 use Rattle.walks.proofs.run.list_progression.Tie as tie
 
+enum-told : tie.Need-enum-told
+enum-told c = search needs
+
+list-lrcp-requires : tie.Need-list-lrcp-requires
+list-lrcp-requires c κs =
+    let p = c .before .before .before .before .before .before .before .pre .1 in
+    let e = c .before .before .enum-told .given .1 in
+    (_, (_, planned-counted _ _ _ _ _ (p .1 .1 .1) (some e refl) (p .1 .1 .2), few-of _ _ _ _ _ (p .1 .1 .1) _ e _ (p .1 .1 .4)))
+
+enum-told-2 : tie.Need-enum-told-2
+enum-told-2 c = search needs
+
+list-rlcp-requires : tie.Need-list-rlcp-requires
+list-rlcp-requires c κs =
+    let p = c .before .before .before .before .before .before .before .pre .1 in
+    let e = c .before .before .enum-told2 .given .1 in
+    (_, (_, planned-counted _ _ _ _ _ (p .1 .1 .1) (some e refl) (p .1 .1 .2), few-of _ _ _ _ _ (p .1 .1 .1) _ e _ (p .1 .1 .4)))
+
+enum-told-3 : tie.Need-enum-told-3
+enum-told-3 c = search needs
+
 list-rpcl-requires : tie.Need-list-rpcl-requires
 list-rpcl-requires c κs =
-    let p = c .before .before .before .before .before .before .before .pre in
-    let d = p .1 .1 .1 .1 in
-    let e : c .before .before .before .before .before .before .before .args .plan .order ≡ 2 = omega (arith, c .before .before .before .match .keys1) in
-    (p .0, (_, (_, by-points _ _ _ _ _ _ d 2 e (omega arith) (p .1 .1 .1 .2) (omega arith), few-of _ _ _ _ _ _ d 2 e (omega arith) _ (p .1 .1 .1 .3))))
+    let z = c .before .before .before in
+    let p = z .before .before .before .before .before .pre in
+    let q = p .1 .1 .1 in
+    let e = z .enum-told3 .given .1 in
+    (p .0, (_, (_, planned-ready _ _ _ _ _ (q .1) (q .3) (ap byPoints e), few-of _ _ _ _ _ (q .1) _ e _ (q .4))))
+
+enum-told-4 : tie.Need-enum-told-4
+enum-told-4 c = search needs
 
 list-pcrl-requires : tie.Need-list-pcrl-requires
 list-pcrl-requires c κs =
-    let p = c .before .before .before .before .before .before .before .pre in
-    let d = p .1 .1 .1 .1 in
-    let e : c .before .before .before .before .before .before .before .args .plan .order ≡ 3 = omega (arith, c .before .before .before .match .keys2) in
-    (p .0, (_, (_, by-points _ _ _ _ _ _ d 3 e (omega arith) (p .1 .1 .1 .2) (omega arith), few-of _ _ _ _ _ _ d 3 e (omega arith) _ (p .1 .1 .1 .3))))
+    let z = c .before .before .before in
+    let p = z .before .before .before .before .before .pre in
+    let q = p .1 .1 .1 in
+    let e = z .enum-told4 .given .1 in
+    (p .0, (_, (_, planned-ready _ _ _ _ _ (q .1) (q .3) (ap byPoints e), few-of _ _ _ _ _ (q .1) _ e _ (q .4))))
+
+enum-told-5 : tie.Need-enum-told-5
+enum-told-5 c = search needs
 
 list-cprl-requires : tie.Need-list-cprl-requires
 list-cprl-requires c κs =
-    let p = c .before .before .before .before .before .before .before .pre in
-    let d = p .1 .1 .1 .1 in
-    let e : c .before .before .before .before .before .before .before .args .plan .order ≡ 4 = omega (arith, c .before .before .before .match .keys3) in
-    (p .0, (_, (_, by-points _ _ _ _ _ _ d 4 e (omega arith) (p .1 .1 .1 .2) (omega arith), few-of _ _ _ _ _ _ d 4 e (omega arith) _ (p .1 .1 .1 .3))))
+    let z = c .before .before .before in
+    let p = z .before .before .before .before .before .pre in
+    let q = p .1 .1 .1 in
+    let e = z .enum-told5 .given .1 in
+    (p .0, (_, (_, planned-ready _ _ _ _ _ (q .1) (q .3) (ap byPoints e), few-of _ _ _ _ _ (q .1) _ e _ (q .4))))
 
-list-counted-requires : tie.Need-list-counted-requires
-list-counted-requires c κs =
-    let p = c .before .before .before .before .before .before .pre .1 in
-    ((p .0, (p .1 .0, (p .1 .1 .0, p .1 .1 .1, p .1 .1 .3))), not-pointed (c .before .before .before .before .before .before .args .plan .order) (λ e. omega arith) (λ e. omega arith) (λ e. omega arith))
+enum-told-6 : tie.Need-enum-told-6
+enum-told-6 c = search needs
 
 same-length : tie.Need-same-length
 same-length c = search needs
@@ -40,9 +70,12 @@ same-length-2 c = search needs
 
 returns : tie.Need-returns
 returns c =
-    let e : c .before .before .before .before .before .before .before .before .before .before .before .before .args .plan .order ≡ 2 = omega (arith, c .before .before .before .before .before .before .before .before .match .keys1) in
-    let f = c .before .before .before .before .list-rpcl .ensures in
-    (f .0, λ st table k d p. listed-of _ _ _ _ _ _ d 2 e (omega arith) _ _ (f .1 _ _ (by-points _ _ _ _ _ _ d 2 e (omega arith) p (omega arith))))
+    let z = c .before .before .before .before .before .before .before in (
+      z .before .before .before .before .before .pre .0,
+      λ st table k d a p.
+          let e = z .enum-told .given .1 in
+          listed-of _ _ _ _ _ d _ e _ _ (c .before .before .before .before .list-lrcp .ensures _ _ (planned-counted _ _ _ _ _ d (some e refl) a)),
+    )
 
 same-length-3 : tie.Need-same-length-3
 same-length-3 c = search needs
@@ -52,9 +85,12 @@ same-length-4 c = search needs
 
 returns-2 : tie.Need-returns-2
 returns-2 c =
-    let e : c .before .before .before .before .before .before .before .before .before .before .before .before .args .plan .order ≡ 3 = omega (arith, c .before .before .before .before .before .before .before .before .match .keys2) in
-    let f = c .before .before .before .before .list-pcrl .ensures in
-    (f .0, λ st table k d p. listed-of _ _ _ _ _ _ d 3 e (omega arith) _ _ (f .1 _ _ (by-points _ _ _ _ _ _ d 3 e (omega arith) p (omega arith))))
+    let z = c .before .before .before .before .before .before .before in (
+      z .before .before .before .before .before .pre .0,
+      λ st table k d a p.
+          let e = z .enum-told2 .given .1 in
+          listed-of _ _ _ _ _ d _ e _ _ (c .before .before .before .before .list-rlcp .ensures _ _ (planned-counted _ _ _ _ _ d (some e refl) a)),
+    )
 
 same-length-5 : tie.Need-same-length-5
 same-length-5 c = search needs
@@ -64,9 +100,13 @@ same-length-6 c = search needs
 
 returns-3 : tie.Need-returns-3
 returns-3 c =
-    let e : c .before .before .before .before .before .before .before .before .before .before .before .before .args .plan .order ≡ 4 = omega (arith, c .before .before .before .before .before .before .before .before .match .keys3) in
-    let f = c .before .before .before .before .list-cprl .ensures in
-    (f .0, λ st table k d p. listed-of _ _ _ _ _ _ d 4 e (omega arith) _ _ (f .1 _ _ (by-points _ _ _ _ _ _ d 4 e (omega arith) p (omega arith))))
+    let z = c .before .before .before .before in
+    let f = z .list-rpcl .ensures in (
+      f .0,
+      λ st table k d a p.
+          let e = z .before .before .before .before .enum-told3 .given .1 in
+          listed-of _ _ _ _ _ d _ e _ _ (f .1 _ _ (planned-ready _ _ _ _ _ d p (ap byPoints e))),
+    )
 
 same-length-7 : tie.Need-same-length-7
 same-length-7 c = search needs
@@ -75,16 +115,49 @@ same-length-8 : tie.Need-same-length-8
 same-length-8 c = search needs
 
 returns-4 : tie.Need-returns-4
-returns-4 c = (c .before .before .before .before .before .before .before .before .before .before .before .pre .0, λ st table k d p. c .before .before .before .before .list-counted .ensures st table k d)
+returns-4 c =
+    let z = c .before .before .before .before in
+    let f = z .list-pcrl .ensures in (
+      f .0,
+      λ st table k d a p.
+          let e = z .before .before .before .before .enum-told4 .given .1 in
+          listed-of _ _ _ _ _ d _ e _ _ (f .1 _ _ (planned-ready _ _ _ _ _ d p (ap byPoints e))),
+    )
+
+same-length-9 : tie.Need-same-length-9
+same-length-9 c = search needs
+
+same-length-10 : tie.Need-same-length-10
+same-length-10 c = search needs
+
+returns-5 : tie.Need-returns-5
+returns-5 c =
+    let z = c .before .before .before .before in
+    let f = z .list-cprl .ensures in (
+      f .0,
+      λ st table k d a p.
+          let e = z .before .before .before .before .enum-told5 .given .1 in
+          listed-of _ _ _ _ _ d _ e _ _ (f .1 _ _ (planned-ready _ _ _ _ _ d p (ap byPoints e))),
+    )
+
+returns-6 : tie.Need-returns-6
+returns-6 c = (c .before .before .before .before .before .pre .0, λ st table k d a p. none-listed _ _ _ _ _ d (c .enum-told6 .given .1) _ _)
 
 pub list-progression-spec : {M : Type 1} → statement M
 list-progression-spec =
     tie.close
     (tie.spec
+    enum-told
+    list-lrcp-requires
+    enum-told-2
+    list-rlcp-requires
+    enum-told-3
     list-rpcl-requires
+    enum-told-4
     list-pcrl-requires
+    enum-told-5
     list-cprl-requires
-    list-counted-requires
+    enum-told-6
     same-length
     same-length-2
     returns
@@ -96,4 +169,8 @@ list-progression-spec =
     returns-3
     same-length-7
     same-length-8
-    returns-4)
+    returns-4
+    same-length-9
+    same-length-10
+    returns-5
+    returns-6)

@@ -1,8 +1,10 @@
--- `search`: each place leaves what is behind it. Assumes nothing.
+-- `search`: each place leaves what is after it. Assumes nothing.
+use borrow.Author.Needs.{needs}
 use mathlib.Core.Path.{_∙_}
 use native.Mathlib.Omega.{arith}
-use Rattle.walks.specs.Search.{fresh-startable, fresh-found, ended-found, at-startable, at-found, at-small}
-use borrow.Author.Needs.{needs}
+use Rattle.laws.specs.Runs.{seek}
+use Rattle.walks.specs.Search.{first-startable}
+use Rattle.walks.specs.Plan.{fresh-left, at-startable, at-small, at-left}
 use Rattle.walks.proofs.search.search.Statement.{statement}
 use Rattle.walks.proofs.search.search.Tie as tie
 
@@ -12,29 +14,30 @@ enum-told c = search needs
 first-requires : tie.Need-first-requires
 first-requires c κs = search needs
 
-walk-from-requires : tie.Need-walk-from-requires
-walk-from-requires c κs = let w = c .before .before .before .before .pre in let d = w .1 .1 .1 in (w .0, (w .1 .0, (w .1 .1 .0, d, fresh-startable (w .0) (w .1 .0) _ _ _ _ (w .1 .1 .0) (d .ordered) (c .before .before .before .before .args .place) _ (c .first .ensures))))
+search-from-requires : tie.Need-search-from-requires
+search-from-requires c κs = let w = c .before .before .before .before .before .pre in ((w .0, w .1), rw (c .first .ensures) (first-startable (c .before .before .before .before .before .args .plan .walk) (c .before .before .before .before .before .args .plan .order)))
 
 enum-known-place : tie.Need-enum-known-place
 enum-known-place c = search needs
 
 next-try-requires : tie.Need-next-try-requires
-next-try-requires c κs = let w = c .before .before .before .before .pre in at-small (w .0) (w .1 .0) _ _ _ _ (w .1 .1 .0) (w .1 .1 .1 .ordered) _ _ (c .before .place .given .1) (w .1 .1 .2) (omega arith)
+next-try-requires c κs = let w = c .before .before .before .before .before .pre in at-small _ _ _ _ _ (w .1) _ (rw (c .before .place .given .1) at (w .2)) (omega arith)
 
-walk-from-requires-2 : tie.Need-walk-from-requires-2
-walk-from-requires-2 c κs = let w = c .before .before .before .before .before .pre in let d = w .1 .1 .1 in (w .0, (w .1 .0, (w .1 .1 .0, d, at-startable (w .0) (w .1 .0) _ _ _ _ (w .1 .1 .0) (d .ordered) _ _ (c .before .before .place .given .1) (w .1 .1 .2) _ (c .next-try .ensures (w .1 .1 .0) (d .ordered .number)))))
+search-from-requires-2 : tie.Need-search-from-requires-2
+search-from-requires-2 c κs = let w = c .before .before .before .before .before .before .pre in ((w .0, w .1), rw (c .next-try .ensures) (at-startable _ _ _ _ _ (w .1) _ (rw (c .before .before .place .given .1) at (w .2))))
 
 enum-told-2 : tie.Need-enum-told-2
 enum-told-2 c = search needs
 
 returns : tie.Need-returns
-returns c = λ s g o d h. c .walk-from .ensures s g o d ∙ fresh-found s g _ _ _ _ o (d .ordered) _ _ (c .before .before .enum-told .given .1) (c .before .first .ensures)
+returns c = λ k d h. let a = c .before .before .before .before .before .before .args in c .search-from .ensures k d ∙ rw (c .before .first .ensures, fresh-left _ _ _ _ _ d, c .before .before .enum-told .given .1)
 
 returns-2 : tie.Need-returns-2
-returns-2 c = λ s g o d h. c .walk-from2 .ensures s g o d ∙ at-found s g _ _ _ _ o (d .ordered) _ _ (c .before .before .before .place .given .1) h _ (c .before .next-try .ensures o (d .ordered .number))
+returns-2 c = λ k d h. let a = c .before .before .before .before .before .before .before .args in c .search-from2 .ensures k d ∙ rw (c .before .next-try .ensures, at-left _ _ _ _ _ d _ (rw (c .before .before .before .place .given .1) at h), c .before .before .before .place .given .1)
 
 returns-3 : tie.Need-returns-3
-returns-3 c = λ s g o d h. ended-found s g _ _ _ _ o (d .ordered) _ (c .enum-told2 .given .1)
+unfolding seek
+returns-3 c = λ k d h. rw (c .enum-told2 .given .1)
 
 pub search-spec : {M : Type 1} → statement M
 search-spec =
@@ -42,10 +45,10 @@ search-spec =
     (tie.spec
     enum-told
     first-requires
-    walk-from-requires
+    search-from-requires
     enum-known-place
     next-try-requires
-    walk-from-requires-2
+    search-from-requires-2
     enum-told-2
     returns
     returns-2

@@ -19,8 +19,8 @@ mul-s c = search needs
 array-copy-out-s : tie.Need-array-copy-out-s Inv-loop μ-loop
 array-copy-out-s c = search needs
 
-precincts-requires : tie.Need-precincts-requires Inv-loop μ-loop
-precincts-requires c κs = search needs
+each-requires : tie.Need-each-requires Inv-loop μ-loop
+each-requires c κs = search needs
 
 add-i : tie.Need-add-i Inv-loop μ-loop
 add-i c = search needs
@@ -43,7 +43,7 @@ all-spec =
     loop-holds
     mul-s
     array-copy-out-s
-    precincts-requires
+    each-requires
     add-i
     loop-less
     loop-again

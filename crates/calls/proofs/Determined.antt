@@ -1,0 +1,62 @@
+-- Each public contract of this crate allows one answer and one later content of what is lent. Assumes nothing.
+use mathlib.Core.Path.{_≡_, sym, _∙_}
+use borrow.Fn.Kinds.{Dens, resT, endedOf}
+use contract.Lifetimes.{Lfts}
+use denote.Ref.{now}
+use denote.Triple.Clauses.{AtExit}
+use Rattle.laws.specs.Determined.{determined, determined-by, OneAnswer}
+use Rattle.types.specs.Answers.{ofOpened}
+use Rattle.packets.specs.Apart.{setup-apart, opened-apart, stepped-apart}
+use Rattle.calls.proofs.setup.setup_for.Kinds as setup-for-kinds
+use Rattle.calls.proofs.setup.setup_for.Reads as setup-for
+use Rattle.calls.proofs.setup.setup.Kinds as setup-kinds
+use Rattle.calls.proofs.setup.setup.Reads as setup
+use Rattle.calls.proofs.soundness.state_sound.Kinds as state-sound-kinds
+use Rattle.calls.proofs.soundness.state_sound.Reads as state-sound
+use Rattle.calls.proofs.soundness.sound.Kinds as sound-kinds
+use Rattle.calls.proofs.soundness.sound.Reads as sound
+use Rattle.calls.proofs.open.open.Kinds as opening-kinds
+use Rattle.calls.proofs.open.open.Reads as opening
+use Rattle.calls.proofs.step.step.Kinds as step-kinds
+use Rattle.calls.proofs.step.step.Reads as step
+use Rattle.calls.proofs.whole.whole_run.Kinds as whole-run-kinds
+use Rattle.calls.proofs.whole.whole_run.Reads as whole-run
+
+pub setup-determined : OneAnswer setup-kinds.ps setup-kinds.r setup.Post
+setup-determined κs a r s e f p q = setup-apart r s (p .0 ∙ sym (q .0))
+
+-- and what stands in the table and in the marks at exit
+pub setup-leaves : (κs : Lfts 3) (a : Dens κs setup-kinds.ps) (r s : resT setup-kinds.r κs .Denot) (e f : AtExit (endedOf 3 setup-kinds.ps setup-kinds.r) κs)
+    → setup.Post κs a r e → setup.Post κs a s f → (now (e .1 .0) ≡ now (f .1 .0)) × (now (e .1 .1 .0) ≡ now (f .1 .1 .0))
+setup-leaves κs a r s e f p q = (p .1 .0 ∙ sym (q .1 .0), p .1 .1 ∙ sym (q .1 .1))
+
+pub setup-for-determined : OneAnswer setup-for-kinds.ps setup-for-kinds.r setup-for.Post
+setup-for-determined κs a r s e f p q = setup-apart r s (p .0 ∙ sym (q .0))
+
+pub setup-for-leaves : (κs : Lfts 3) (a : Dens κs setup-for-kinds.ps) (r s : resT setup-for-kinds.r κs .Denot) (e f : AtExit (endedOf 3 setup-for-kinds.ps setup-for-kinds.r) κs)
+    → setup-for.Post κs a r e → setup-for.Post κs a s f → (now (e .1 .0) ≡ now (f .1 .0)) × (now (e .1 .1 .0) ≡ now (f .1 .1 .0))
+setup-for-leaves κs a r s e f p q = (p .1 .0 ∙ sym (q .1 .0), p .1 .1 ∙ sym (q .1 .1))
+
+pub state-sound-determined : OneAnswer state-sound-kinds.ps state-sound-kinds.r state-sound.Post
+state-sound-determined κs a r s e f = determined _ r s
+
+pub sound-determined : OneAnswer sound-kinds.ps sound-kinds.r sound.Post
+sound-determined κs a r s e f = determined _ r s
+
+pub open-determined : OneAnswer opening-kinds.ps opening-kinds.r opening.Post
+open-determined κs a r s e f = determined-by ofOpened opened-apart _ r s
+
+pub step-determined : OneAnswer step-kinds.ps step-kinds.r step.Post
+step-determined κs a r s e f p q = stepped-apart r s (p .0 ∙ sym (q .0))
+
+pub step-leaves : (κs : Lfts 2) (a : Dens κs step-kinds.ps) (r s : resT step-kinds.r κs .Denot) (e f : AtExit (endedOf 2 step-kinds.ps step-kinds.r) κs)
+    → step.Post κs a r e → step.Post κs a s f → now (e .1 .1 .0) ≡ now (f .1 .1 .0)
+step-leaves κs a r s e f p q = p .1 ∙ sym (q .1)
+
+pub whole-run-determined : OneAnswer whole-run-kinds.ps whole-run-kinds.r whole-run.Post
+whole-run-determined κs a r s e f p q = p .0 ∙ sym (q .0)
+
+pub whole-run-leaves : (κs : Lfts 4) (a : Dens κs whole-run-kinds.ps) (r s : resT whole-run-kinds.r κs .Denot) (e f : AtExit (endedOf 4 whole-run-kinds.ps whole-run-kinds.r) κs)
+    → whole-run.Post κs a r e → whole-run.Post κs a s f
+    → (now (e .1 .0) ≡ now (f .1 .0)) × (now (e .1 .1 .0) ≡ now (f .1 .1 .0)) × (now (e .1 .1 .1 .0) ≡ now (f .1 .1 .1 .0))
+whole-run-leaves κs a r s e f p q = (p .1 .0 ∙ sym (q .1 .0), p .1 .1 .0 ∙ sym (q .1 .1 .0), p .1 .1 .1 ∙ sym (q .1 .1 .1))

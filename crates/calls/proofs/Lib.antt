@@ -1,0 +1,7 @@
+pub mod InRange
+pub mod Resolution
+pub mod Listed
+pub mod SoundBy
+pub mod SetUps
+pub mod Kept
+pub mod Determined

@@ -1,0 +1,28 @@
+-- `open`: -9 before -11, and else a fresh cursor. Assumes nothing.
+use Rattle.packets.specs.Calls.{openOf}
+use borrow.Author.Tests.{lt-ltb, le-ltb}
+use mathlib.Core.Path.{sym, _∙_}
+use borrow.Author.Needs.{needs}
+use Rattle.calls.proofs.open.open.Statement.{statement}
+use Rattle.calls.proofs.open.open.Tie as tie
+
+state-sound-requires : tie.Need-state-sound-requires
+state-sound-requires c κs = search needs
+
+fresh-requires : tie.Need-fresh-requires
+fresh-requires c κs = search needs
+
+returns : tie.Need-returns
+unfolding openOf
+returns c = rw ((sym (c .before .before .before .before .state-sound .ensures) ∙ c .before .before .before .if1 .taken), lt-ltb _ _ (c .before .if2 .taken), c .fresh .ensures)
+
+returns-2 : tie.Need-returns-2
+unfolding openOf
+returns-2 c = rw ((sym (c .before .before .before .state-sound .ensures) ∙ c .before .before .if1 .taken), le-ltb _ _ (c .if2 .left))
+
+returns-3 : tie.Need-returns-3
+unfolding openOf
+returns-3 c = rw (sym (c .before .state-sound .ensures) ∙ c .if1 .left)
+
+pub open-spec : {M : Type 1} → statement M
+open-spec = tie.close (tie.spec state-sound-requires fresh-requires returns returns-2 returns-3)

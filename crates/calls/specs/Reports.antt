@@ -1,0 +1,26 @@
+-- What a survey finds, as the reports of a state.
+use mathlib.Core.Bool.{Bool, _&&_}
+use lib.Dec.{eqb}
+use Rattle.types.specs.declared.state.State.{State}
+use Rattle.survey.specs.declared.Findings.{Findings}
+
+abbrev pub withReports : State → Findings → State
+withReports st f =
+    record {
+      tx0 = st .tx0;
+      ty0 = st .ty0;
+      tx1 = st .tx1;
+      ty1 = st .ty1;
+      layers = st .layers;
+      components = st .components;
+      progressions = st .progressions;
+      dx = st .dx;
+      dy = st .dy;
+      resolutions = st .resolutions;
+      changes = st .changes;
+      reports = record { «max_prec» = f .«max_prec»; «max_res» = f .«max_res»; «dx_min» = f .«dx_min»; «dy_min» = f .«dy_min» };
+    }
+
+abbrev pub sameReports : State → Findings → Bool
+sameReports st f =
+    eqb (st .reports .«max_prec») (f .«max_prec») && (eqb (st .reports .«max_res») (f .«max_res») && (eqb (st .reports .«dx_min») (f .«dx_min») && eqb (st .reports .«dy_min») (f .«dy_min»)))

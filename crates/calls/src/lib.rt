@@ -1,0 +1,12 @@
+// The public calls: setup, the test of soundness that comes before every other call, opening, step and whole run.
+mod fields;
+mod marks;
+pub mod open;
+pub mod output;
+mod place;
+mod reports;
+pub mod setup;
+pub mod soundness;
+pub mod step;
+mod table;
+pub mod whole;

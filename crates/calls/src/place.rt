@@ -1,0 +1,131 @@
+// Whether a cursor's place is one that its progression admits (01, 'Sound means').
+use geometry::axis::Line;
+use types::cursor::Place;
+use types::cursor::Position;
+use types::order::Order;
+use types::order::Range;
+use types::state::Progression;
+use types::state::State;
+use types::table::Entry;
+use types::table::entries;
+ghost use mathlib.Core.Path.{_≡_};
+ghost use Prim.Native.Nat.{_*_, _<_};
+ghost use Rattle.geometry.specs.Axis.{lineOf};
+ghost use Rattle.packets.specs.Positions.{positionsOf};
+ghost use Rattle.packets.specs.Table.{sheetAt};
+ghost use Rattle.packets.specs.Tile.{resOf};
+ghost use Rattle.packets.specs.Sound.{isIn, placeSound, positionsFor};
+ghost use Rattle.calls.specs.Points.{inRange, countedOf, metOf, metBy, positionTest, Fit, Reached};
+
+// A position is in a progression's ranges.
+fn in_range(g: Range, p: Position) -> bool
+    ensures { λ r. ⌜ r ≡ inRange g p ⌝ }
+{
+    (p.layno < g.layno1)
+        & ((g.resno0 <= p.resno)
+            & ((p.resno < g.resno1) & ((g.compno0 <= p.compno) & (p.compno < g.compno1))))
+}
+
+// Orders LRCP and RLCP: one of the resolution's precincts, with no point.
+fn counted(e: Entry, p: Position) -> bool
+    ensures { λ r. ⌜ r ≡ countedOf (e .width * e .height) p ⌝ }
+{
+    let count = (e.width as u64) * (e.height as u64);
+    ((p.precno as u64) < count) & ((p.x == 0) & (p.y == 0))
+}
+
+// The precinct that is met at the point, if there are any.
+fn met(x: Line, y: Line, e: Entry, p: Position) -> bool
+    ensures { λ r. ⌜ r ≡ metOf (lineOf x) (lineOf y) (e .width) (e .width * e .height) p ⌝ }
+{
+    let count = (e.width as u64) * (e.height as u64);
+    if count == 0 {
+        return false;
+    }
+    if y.meets(p.y) {
+        if x.meets(p.x) {
+            let column = x.column(p.x) as u64;
+            let row = y.column(p.y) as u64;
+            return (p.precno as u64) == column + row * (e.width as u64);
+        }
+    }
+    false
+}
+
+// The other orders: it is that of the resolution with this entry.
+fn at_point(st: State, e: Entry, p: Position) -> bool
+    requires { ⌜ (p .compno < 16) × (p .resno < resOf st (p .compno)) ⌝ }
+    ensures { λ r. ⌜ r ≡ metBy st e p ⌝ }
+{
+    let c = p.compno as usize;
+    let resolutions = st.resolutions;
+    let level = resolutions[c] - 1 - p.resno;
+    let dx = st.dx;
+    let dy = st.dy;
+    let x = Line {
+        t0: st.tx0,
+        t1: st.tx1,
+        d: dx[c],
+        level,
+        pd: e.pdx,
+    };
+    let y = Line {
+        t0: st.ty0,
+        t1: st.ty1,
+        d: dy[c],
+        level,
+        pd: e.pdy,
+    };
+    met(x, y, e, p)
+}
+
+// A position in range, of a resolution that there is.
+fn of_resolution(st: State, table: &[u8], order: Order, p: Position) -> bool
+    requires { ⌜ Reached st (now table) p ⌝ }
+    ensures { λ r. ⌜ r ≡ positionTest st (now (table .entry)) order p ⌝ }
+{
+    let resolutions = st.resolutions;
+    let before = entries(&resolutions, p.compno as usize);
+    let e = Entry::at(table, before + (p.resno as usize));
+    match order {
+        Order::Lrcp => counted(e, p),
+        Order::Rlcp => counted(e, p),
+        Order::Rpcl => at_point(st, e, p),
+        Order::Pcrl => at_point(st, e, p),
+        Order::Cprl => at_point(st, e, p),
+        Order::NoPositions => false,
+    }
+}
+
+// The positions of a progression have p among them.
+fn listed(st: State, table: &[u8], q: Progression, p: Position) -> bool
+    requires { ⌜ Fit st (now table) ⌝ }
+    ensures { λ r. ⌜ r ≡ isIn p (positionsOf (sheetAt st (now (table .entry))) q) ⌝ }
+{
+    let order = Order::of(q.prg);
+    let g = Range::of(st, q);
+    if g.components_good(st) {
+        if in_range(g, p) {
+            let resolutions = st.resolutions;
+            if p.resno < resolutions[p.compno as usize] {
+                return of_resolution(st, table, order, p);
+            }
+        }
+    }
+    false
+}
+
+// The place of a cursor of progression k is fresh, ended, or at a position that the progression has.
+pub(crate) fn admitted(st: State, table: &[u8], k: u32, place: Place) -> bool
+    requires { ⌜ Fit st (now table) × (k < st .progressions) ⌝ }
+    ensures { λ r. ⌜ r ≡ placeSound place (positionsFor st (now (table .entry)) k) ⌝ }
+{
+    match place {
+        Place::Fresh => true,
+        Place::At(p) => {
+            let changes = st.changes;
+            listed(st, table, changes[k as usize], p)
+        }
+        Place::Ended => true,
+    }
+}

@@ -1,0 +1,189 @@
+-- THE DEMANDS on the calls, each as one theorem whose premises all stand in it. That every call ends, on every argument, is the kit's own proof of each function;
+-- that each function answers and leaves what these definitions say is its contract (docs/CONTRACTS.md). Assumes nothing.
+use mathlib.Core.Path.{_≡_, refl}
+use mathlib.Core.Bool.{true, cond}
+use mathlib.Core.List.{List, [], _∷_, _++_, map, List·Memᴰ as In}
+use mathlib.Core.Option.{some, none}
+use Prim.Native.Nat.{ℕ, _+_, _-_, _*_, _/_, _%_, _^_, min, max, _≤_, _<_}
+use lib.ListN.{length, getD, replicate}
+use lib.Dec.{ltb}
+use lib.IntN.{pos, negsuc}
+use borrow.Author.Tests.{le-leb}
+use Rattle.laws.specs.Ceiling.{ceilDiv}
+use Rattle.laws.specs.Gather.{keep}
+use Rattle.laws.specs.Axis.{span}
+use Rattle.laws.specs.Runs.{marked}
+use Rattle.geometry.specs.Precinct.{across}
+use Rattle.geometry.specs.Line.{boundOf, count}
+use Rattle.geometry.specs.Tile.{tileBoundsOf, tile-standard}
+use Rattle.geometry.specs.declared.tile.Area.{Area}
+use Rattle.geometry.specs.declared.tile.Grid.{Grid}
+use Rattle.words.specs.Words.{wordsBytes, over}
+use Rattle.words.specs.Laws.{Bytes}
+use Rattle.types.specs.State.{emptyState, freshCursor, endedCursor}
+use Rattle.packets.specs.Sheet.{wd, componentRecord, resolutionRecord}
+use Rattle.packets.specs.Tile.{needed, indexOf}
+use Rattle.packets.specs.Table.{entryWord}
+use Rattle.packets.specs.Sound.{sound}
+use Rattle.packets.specs.Refusals.{setup-keeps, open-keeps, step-keeps, run-keeps, bounds-keeps}
+use Rattle.packets.specs.Calls.{Setup, setupOf, openOf, stepOf, wholeRunOf, recordsOf}
+use Rattle.packets.specs.Bounds.{boundsOf}
+use Rattle.packets.specs.Host.{Turn, mostSteps, callTurn, Hosted, hostCalls, answered}
+use Rattle.packets.specs.Wanted.{sheetOf, standardOf, standardAll, samePacket, firsts}
+use Rattle.packets.specs.WholeRun.{setup-zero, whole-run-calls}
+use Rattle.packets.specs.Own.{own-wide, own-high}
+use Rattle.packets.specs.OwnRun.{own-turn, own-went, own-cursors, own-order, own-once, own-only, own-set, own-clear, own-beyond, own-size, own-none-left, own-ended, own-reopened, own-fresh}
+use Rattle.types.specs.declared.state.State.{State}
+use Rattle.types.specs.declared.cursor.Position.{Position}
+use Rattle.types.specs.declared.cursor.Cursor.{Cursor}
+
+-- DEMAND 1: a call whose number is below 0, which is negsuc n for -(n + 1), leaves everything lent as it was and answers nothing but that number.
+-- (Setup for C: host, specs/Setup.antt.)
+-- Setup, which answers the empty state then
+pub demand-1-setup : (sheet table marks : List ℕ) (n : ℕ) → setupOf sheet table marks .said .number ≡ negsuc n
+    → setupOf sheet table marks ≡ record { said = record { number = negsuc n; state = emptyState }; table = table; marks = marks }
+demand-1-setup sheet table marks = setup-keeps sheet table marks
+
+-- opening, which is lent nothing that it could change; it answers no cursor
+pub demand-1-open : (st : State) (table marks : List ℕ) (k n : ℕ) → openOf st table marks k .number ≡ negsuc n
+    → openOf st table marks k ≡ record { number = negsuc n; cursor = none }
+demand-1-open st table marks = open-keeps st table marks
+
+-- a step, which answers the cursor as given
+pub demand-1-step : (st : State) (table marks : List ℕ) (c : Cursor) (n : ℕ) → stepOf st table marks c .said .number ≡ negsuc n
+    → stepOf st table marks c ≡ record { said = record { number = negsuc n; packet = none; cursor = c }; marks = marks }
+demand-1-step st table marks = step-keeps st table marks
+
+-- the whole run
+pub demand-1-whole-run : (sheet table marks output : List ℕ) (n : ℕ) → wholeRunOf sheet table marks output .number ≡ negsuc n
+    → wholeRunOf sheet table marks output ≡ record { number = negsuc n; table = table; marks = marks; output = output }
+demand-1-whole-run sheet table marks output = run-keeps sheet table marks output
+
+-- tile bounds for C
+pub demand-1-bounds : (image : Area) (g : Grid) (tileno : ℕ) (output : List ℕ) (n : ℕ) → boundsOf image g tileno output .number ≡ negsuc n
+    → boundsOf image g tileno output ≡ record { number = negsuc n; output = output }
+demand-1-bounds image g tileno output = bounds-keeps output image g tileno
+
+-- DEMAND 2, the proved half: bounds, counts and packets are T.800's.
+-- B.3: tile n of numXtiles by numYtiles, in column p = n mod numXtiles and row q = n / numXtiles, is
+-- from (max(XTOsiz + p·XTsiz, XOsiz), max(YTOsiz + q·YTsiz, YOsiz)) to (min(XTOsiz + (p + 1)·XTsiz, Xsiz), min(YTOsiz + (q + 1)·YTsiz, Ysiz)),
+-- where nothing wraps: there are fewer than 2^32 tiles, tile n is one of them and starts below 2^32, and the image ends below 2^32; written for C into 16 bytes
+pub demand-2-bounds : (image : Area) (g : Grid) (n : ℕ) (output : List ℕ) → (let p = n % g .tw in let q = n / g .tw in
+    g .tw * g .th < 2 ^ 32 → n < g .tw * g .th → g .tx0 + p * g .tdx < 2 ^ 32 → g .ty0 + q * g .tdy < 2 ^ 32 → image .x1 < 2 ^ 32 → image .y1 < 2 ^ 32
+    → (let bounds = max (g .tx0 + p * g .tdx) (image .x0) ∷ max (g .ty0 + q * g .tdy) (image .y0)
+    ∷ min (g .tx0 + (p + 1) * g .tdx) (image .x1) ∷ min (g .ty0 + (q + 1) * g .tdy) (image .y1) ∷ [] in
+    (tileBoundsOf image g n ≡ record { number = pos 0; values = bounds })
+    × (16 ≤ length output → boundsOf image g n output ≡ record { number = pos 0; output = over (wordsBytes bounds) output })))
+unfolding boundsOf
+demand-2-bounds image g n output few number column row right bottom =
+    let e = tile-standard image g n (record { few = few; number = number; column = column; row = row; right = right; bottom = bottom }) in
+    (e, λ room. rw (e, le-leb _ _ room))
+
+-- B.3: tcx0 = ⌈tx0 / XRsiz⌉; B.5: trx0 = ⌈tcx0 / 2^(N_L - r)⌉; the other bounds alike
+abbrev pub trOf : ℕ → ℕ → ℕ → ℕ → ℕ
+trOf t siz nL r = ceilDiv (ceilDiv t siz) (2 ^ (nL - r))
+
+-- B.6: numprecinctswide = ⌈trx1 / 2^PPx⌉ - ⌊trx0 / 2^PPx⌋ if trx1 > trx0, else 0; numprecinctshigh alike
+abbrev pub numprecincts : ℕ → ℕ → ℕ → ℕ
+numprecincts tr0 tr1 pp = cond (ltb tr0 tr1) (ceilDiv tr1 (2 ^ pp) - tr0 / 2 ^ pp) 0
+
+-- the width and the height that setup writes into the table for resolution r of component c of a sheet that it accepts, by the words of that sheet's own records
+-- (i and j): the steps dx and dy are XRsiz and YRsiz, the exponents pdx and pdy PPx and PPy, and N_L is resolutions - 1
+pub demand-2-precincts : (sheet table marks : List ℕ) → Bytes sheet → (let u : Setup = setupOf sheet table marks in u .said .number ≡ pos 0
+    → (c r : ℕ) → (let i = componentRecord sheet c in let j = resolutionRecord sheet c r in
+    let tx0 = wd sheet 0 1 in let ty0 = wd sheet 0 2 in let tx1 = wd sheet 0 3 in let ty1 = wd sheet 0 4 in
+    let dx = wd sheet i 1 in let dy = wd sheet i 2 in let nL = wd sheet i 3 - 1 in let pdx = wd sheet j 1 in let pdy = wd sheet j 2 in
+    c < wd sheet 0 6 → r < wd sheet i 3
+    → (entryWord (u .said .state) (u .table) 2 c r ≡ numprecincts (trOf tx0 dx nL r) (trOf tx1 dx nL r) pdx)
+    × (entryWord (u .said .state) (u .table) 3 c r ≡ numprecincts (trOf ty0 dy nL r) (trOf ty1 dy nL r) pdy)))
+unfolding count across boundOf
+demand-2-precincts sheet table marks bytes e c r h k =
+    let (p, same) = setup-zero sheet table marks e in
+    rw same (own-wide sheet table marks bytes p c r h k, own-high sheet table marks bytes p c r h k)
+
+-- B.12.1: progression k of a sheet that setup accepts, opened over the marks that setup leaves and stepped, lists the packets of the standard's loops with their
+-- own counters, within 01's ranges; its opening answers 0, each step that finds one 1, the last 0
+pub demand-2-packets : (sheet table marks : List ℕ) → Bytes sheet → (let u : Setup = setupOf sheet table marks in u .said .number ≡ pos 0
+    → (k : ℕ) → k < u .said .state .progressions
+    → callTurn mostSteps (u .said .state) (u .table) (u .marks) k
+    ≡ record {
+      opening = pos 0;
+      steps = replicate (length (standardOf sheet k)) (pos 1) ++ (pos 0 ∷ []);
+      packets = standardOf sheet k;
+      cursor = some (endedCursor k);
+      marks = marked (indexOf (u .said .state)) (u .marks) (standardOf sheet k);
+    })
+demand-2-packets sheet table marks bytes e =
+    let (p, same) = setup-zero sheet table marks e in
+    rw same (own-turn sheet table marks bytes p)
+
+-- DEMAND 3: what is right of all the calls of a host, r, over setup's answer for a sheet: its state st, the table, and the marks that were lent to it
+pub record Demand3 (sheet lent : List ℕ) (st : State) (table : List ℕ) (r : Hosted) : Type 0 where
+  -- the state is what the sheet's bytes say, with setup's reports
+  pub state : st ≡ sheetOf sheet .st
+  -- every opening answers 0
+  pub openings : (t : Turn) → In t (r .turns) → t .opening ≡ pos 0
+  -- of the steps of a progression each that finds a packet answers 1, and the last, which ends it, 0
+  pub steps : (t : Turn) → In t (r .turns) → t .steps ≡ replicate (length (t .packets)) (pos 1) ++ (pos 0 ∷ [])
+  -- every progression has its turn, in order, and its cursor is left ended
+  pub cursors : map (λ (t : Turn). t .cursor) (r .turns) ≡ map (λ k. some (endedCursor k)) (span 0 (st .progressions))
+  -- the packets answered are those of T.800's loops, progression after progression, in that order, one already listed left out
+  pub order : answered r ≡ firsts (standardAll sheet)
+  -- each that some progression admits occurs exactly once
+  pub once : (k : ℕ) → k < st .progressions → (p : Position) → In p (standardOf sheet k) → length (keep (samePacket p) (answered r)) ≡ 1
+  -- and no other occurs
+  pub only : (p : Position) → In p (answered r) → (k : ℕ) × (k < st .progressions) × In p (standardOf sheet k)
+  -- the mark of each of them is 1
+  pub set-marks : (p : Position) → In p (answered r) → getD (r .marks) (indexOf st p) 0 ≡ 1
+  -- every other mark that is needed is 0
+  pub clear-marks : (i : ℕ) → i < needed st → ((p : Position) → In p (answered r) → indexOf st p ≡ i → ⊥) → getD (r .marks) i 0 ≡ 0
+  -- and the marks from there on are as lent
+  pub other-marks : (i : ℕ) → needed st ≤ i → getD (r .marks) i 0 ≡ getD lent i 0
+  pub as-many-marks : length (r .marks) ≡ length lent
+  -- a further step of an ended cursor answers 0 and changes nothing
+  pub ended-again : (k : ℕ) → k < st .progressions
+      → stepOf st table (r .marks) (endedCursor k) ≡ record { said = record { number = pos 0; packet = none; cursor = endedCursor k }; marks = r .marks }
+  -- a progression opened again answers 0 and a fresh cursor, whose step answers 0, ends it and changes nothing
+  pub opened-again : (k : ℕ) → k < st .progressions → openOf st table (r .marks) k ≡ record { number = pos 0; cursor = some (freshCursor k) }
+  pub stepped-again : (k : ℕ) → k < st .progressions
+      → stepOf st table (r .marks) (freshCursor k) ≡ record { said = record { number = pos 0; packet = none; cursor = endedCursor k }; marks = r .marks }
+  -- and so does a step of any cursor that is not refused
+  pub nothing-more : (c : Cursor) → sound st table (r .marks) c ≡ true
+      → stepOf st table (r .marks) c ≡ record { said = record { number = pos 0; packet = none; cursor = endedCursor (c .progression) }; marks = r .marks }
+
+-- for every sheet that setup accepts
+pub demand-3 : (sheet table marks : List ℕ) → Bytes sheet → (let u : Setup = setupOf sheet table marks in u .said .number ≡ pos 0
+    → Demand3 sheet marks (u .said .state) (u .table) (hostCalls (u .said .state) (u .table) (u .marks)))
+demand-3 sheet table marks bytes e =
+    let (p, same) = setup-zero sheet table marks e in
+    let went = own-went sheet table marks bytes p in
+    rw same
+    (record {
+      state = refl;
+      openings = λ t i. went .answers t i .opening;
+      steps = λ t i. went .answers t i .steps;
+      cursors = own-cursors sheet table marks bytes p;
+      order = own-order sheet table marks bytes p;
+      once = own-once sheet table marks bytes p;
+      only = own-only sheet table marks bytes p;
+      set-marks = own-set sheet table marks bytes p;
+      clear-marks = own-clear sheet table marks bytes p;
+      other-marks = own-beyond sheet table marks bytes p;
+      as-many-marks = own-size sheet table marks bytes p;
+      ended-again = own-ended sheet table marks bytes p;
+      opened-again = own-reopened sheet table marks bytes p;
+      stepped-again = own-fresh sheet table marks bytes p;
+      nothing-more = own-none-left sheet table marks bytes p;
+    })
+
+-- THE WHOLE RUN IS THAT RUN, for every sheet that setup accepts and an output of 16 bytes for each mark needed: its number is the count of those packets, its
+-- records are theirs in that order, table and marks are those that the calls leave
+pub whole-run-same : (sheet table marks output : List ℕ) → Bytes sheet → (let u : Setup = setupOf sheet table marks in u .said .number ≡ pos 0
+    → 16 * needed (u .said .state) ≤ length output
+    → (let r : Hosted = hostCalls (u .said .state) (u .table) (u .marks) in
+    (wholeRunOf sheet table marks output
+    ≡ record { number = pos (length (answered r)); table = u .table; marks = r .marks; output = over (recordsOf (answered r)) output })
+    × (answered r ≡ firsts (standardAll sheet))))
+whole-run-same sheet table marks output bytes e =
+    let (p, same) = setup-zero sheet table marks e in
+    rw same (λ room. (whole-run-calls sheet table marks bytes p output room, own-order sheet table marks bytes p))

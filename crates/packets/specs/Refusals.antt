@@ -1,0 +1,124 @@
+-- Every call answers a number of 0 or more, or else keeps all that was lent and answers only its refusal. Assumes nothing.
+use mathlib.Core.Path.{_≡_, refl, sym, ap, _∙_}
+use mathlib.Core.Bool.{Bool, true, false, cond}
+use mathlib.Core.List.{List}
+use mathlib.Core.Option.{some, none}
+use Prim.Native.Nat.{ℕ}
+use native.Mathlib.Omega.{arith}
+use lib.ListN.{length}
+use lib.Dec.{ltb, leb, eqb}
+use lib.IntN.{ℤ, pos, negsuc}
+use Rattle.laws.specs.Runs.{Answer, Packet, Ended, seek}
+use Rattle.geometry.specs.Tile.{tileBoundsOf}
+use Rattle.geometry.specs.declared.tile.Area.{Area}
+use Rattle.geometry.specs.declared.tile.Grid.{Grid}
+use Rattle.words.specs.Words.{wordsBytes, over}
+use Rattle.types.specs.State.{emptyState, freshCursor}
+use Rattle.packets.specs.Tile.{indexOf}
+use Rattle.packets.specs.Sound.{stateSound, positionsFor, sound}
+use Rattle.types.specs.Answers.{OpenSaid}
+use Rattle.packets.specs.Calls.{refusal, Setup, setupVerdict, accepted, setupOf, openOf, after, Step, stepBy, stepOf, Run, runVerdict, listed, ranOver, wholeRunOf}
+use Rattle.packets.specs.Bounds.{Bounds, writtenBy, boundsOf}
+use Rattle.types.specs.declared.state.State.{State}
+use Rattle.types.specs.declared.cursor.Position.{Position}
+use Rattle.types.specs.declared.cursor.Cursor.{Cursor}
+
+-- the number of an outcome, and the outcome that keeps all with a number of its own
+module _ {A : Type 0} (number : A → ℤ) (kept : ℤ → A) where
+  -- where the number is below 0, all is kept
+  abbrev pub Keeps : A → Type 0
+  Keeps x = (n : ℕ) → number x ≡ negsuc n → x ≡ kept (negsuc n)
+
+  found : (x : A) (m : ℕ) → number x ≡ pos m → Keeps x
+  found x m e n f =
+      let same : pos m ≡ negsuc n = sym e ∙ f in
+      let z : _≡_ {A = ℕ} 0 1 = cc in
+      absurd (let no : ⊥ = omega arith in no)
+
+  refused : ((z : ℤ) → number (kept z) ≡ z) → (z : ℤ) → Keeps (kept z)
+  refused own z n f = ap kept (sym (own z) ∙ f)
+
+  either : (t : Bool) (x y : A) → Keeps x → Keeps y → Keeps (cond t x y)
+  either true x y k l = k
+  either false x y k l = l
+
+  -- one that is found, or else a refusal
+  or-refused : ((z : ℤ) → number (kept z) ≡ z) → (t : Bool) (x : A) (z : ℤ) → Keeps x → Keeps (cond t x (kept z))
+  or-refused own t x z k = either t x (kept z) k (refused own z)
+
+-- the number of each call
+abbrev setupNumber : Setup → ℤ
+setupNumber u = u .said .number
+
+abbrev openNumber : OpenSaid → ℤ
+openNumber o = o .number
+
+abbrev stepNumber : Step → ℤ
+stepNumber u = u .said .number
+
+abbrev runNumber : Run → ℤ
+runNumber r = r .number
+
+abbrev boundsNumber : Bounds → ℤ
+boundsNumber b = b .number
+
+module _ (sheet table marks : List ℕ) where
+  abbrev setupKept : ℤ → Setup
+  setupKept z = record { said = record { number = z; state = emptyState }; table = table; marks = marks }
+
+  pub setup-keeps : Keeps setupNumber setupKept (setupOf sheet table marks)
+  unfolding setupOf
+  setup-keeps =
+      let v = setupVerdict sheet table marks in
+      or-refused setupNumber setupKept (λ z. refl) (eqb v 0) (accepted sheet table marks) (refusal v) (found setupNumber setupKept (accepted sheet table marks) 0 refl)
+
+  module _ (output : List ℕ) where
+    abbrev runKept : ℤ → Run
+    runKept z = record { number = z; table = table; marks = marks; output = output }
+
+    pub run-keeps : Keeps runNumber runKept (wholeRunOf sheet table marks output)
+    unfolding wholeRunOf ranOver
+    run-keeps =
+        let v = runVerdict sheet table marks output in
+        let u : Setup = accepted sheet table marks in
+        let r : Run = ranOver u output in
+        or-refused runNumber runKept (λ z. refl) (eqb v 0) r (refusal v) (found runNumber runKept r (length (listed (u .said .state) (u .table))) refl)
+
+module _ (st : State) (table marks : List ℕ) where
+  abbrev openKept : ℤ → OpenSaid
+  openKept z = record { number = z; cursor = none }
+
+  pub open-keeps : (k : ℕ) → Keeps openNumber openKept (openOf st table marks k)
+  unfolding openOf
+  open-keeps k =
+      let fresh : OpenSaid = record { number = pos 0; cursor = some (freshCursor k) } in
+      or-refused openNumber openKept (λ z. refl) (stateSound st table marks) (cond (ltb k (st .progressions)) fresh (openKept (refusal 11))) (refusal 9)
+      (or-refused openNumber openKept (λ z. refl) (ltb k (st .progressions)) fresh (refusal 11) (found openNumber openKept fresh 0 refl))
+
+  module _ (c : Cursor) where
+    abbrev stepKept : ℤ → Step
+    stepKept z = record { said = record { number = z; packet = none; cursor = c }; marks = marks }
+
+    step-found : (a : Answer Position) → Keeps stepNumber stepKept (stepBy st marks (c .progression) a)
+    step-found (Packet p) = found stepNumber stepKept (stepBy st marks (c .progression) (Packet p)) 1 refl
+    step-found Ended = found stepNumber stepKept (stepBy st marks (c .progression) Ended) 0 refl
+
+    pub step-keeps : Keeps stepNumber stepKept (stepOf st table marks c)
+    unfolding stepOf
+    step-keeps =
+        let a : Answer Position = seek (indexOf st) marks (after (c .place) (positionsFor st table (c .progression))) in
+        or-refused stepNumber stepKept (λ z. refl) (sound st table marks c) (stepBy st marks (c .progression) a) (refusal 9) (step-found a)
+
+module _ (output : List ℕ) where
+  abbrev boundsKept : ℤ → Bounds
+  boundsKept z = record { number = z; output = output }
+
+  written-keeps : (z : ℤ) (words : List ℕ) → Keeps boundsNumber boundsKept (writtenBy z words output)
+  written-keeps (pos m) words =
+      let done : Bounds = record { number = pos 0; output = over (wordsBytes words) output } in
+      or-refused boundsNumber boundsKept (λ z. refl) (leb 16 (length output)) done (refusal 8) (found boundsNumber boundsKept done 0 refl)
+  written-keeps (negsuc m) words = refused boundsNumber boundsKept (λ z. refl) (negsuc m)
+
+  pub bounds-keeps : (image : Area) (g : Grid) (tileno : ℕ) → Keeps boundsNumber boundsKept (boundsOf image g tileno output)
+  unfolding boundsOf
+  bounds-keeps image g tileno = written-keeps (tileBoundsOf image g tileno .number) (tileBoundsOf image g tileno .values)

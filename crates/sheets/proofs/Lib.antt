@@ -1,9 +1,0 @@
-pub mod InRange
-pub mod Numbered
-pub mod OnAxis
-pub mod Listed
-pub mod Resolution
-pub mod SoundBy
-pub mod SetUps
-pub mod Kept
-pub mod Determined

@@ -1,7 +1,0 @@
--- What the calls' parts are to do, in terms of the numbers that they are given.
-pub mod Ranges
-pub mod Fields
-pub mod Points
-pub mod Reports
-pub mod Refused
-pub mod Room

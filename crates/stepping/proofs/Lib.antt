@@ -1,0 +1,2 @@
+-- What is proved of the export's contract.
+pub mod Determined

@@ -1,0 +1,59 @@
+-- Of a sound state, what the calls of all progressions leave is what all its listings leave (walks, RunAll.antt), which is the whole run. Assumes nothing.
+use mathlib.Core.Path.{_≡_, ap, _∙_, subst}
+use mathlib.Core.List.{List, map, Memᴰ·of-map as in-of-map}
+use Prim.Native.Nat.{ℕ, _+_, _≤_}
+use native.Mathlib.Omega.{arith}
+use lib.IntN.{ℤ, pos}
+use Rattle.laws.specs.Axis.{span}
+use Rattle.laws.specs.Lists.{NoRepeats}
+use Rattle.laws.specs.AllRuns.{Listing, listing, runAll, run-all, NoneRepeats}
+use Rattle.words.specs.Laws.{Bytes}
+use Rattle.packets.specs.Tile.{indexOf}
+use Rattle.packets.specs.Calls.{runVerdict}
+use Rattle.packets.specs.Sound.{positionsFor}
+use Rattle.packets.specs.Meaning.{Sound, sound-means}
+use Rattle.packets.specs.Same.{same}
+use Rattle.packets.specs.Host.{mostSteps, Hosted, callRuns}
+use Rattle.packets.specs.Turns.{once}
+use Rattle.packets.specs.Run.{listingOf, all, calls-went}
+use Rattle.types.specs.declared.state.State.{State}
+use Rattle.types.specs.declared.answer.SetUp.{SetUp}
+use Rattle.types.specs.declared.cursor.Position.{Position}
+use Rattle.walks.specs.Running.{Total, totalOf}
+use Rattle.walks.specs.RunAll.{fromOn, count-few}
+use Rattle.calls.specs.Whole.{Left, SetUpLeft, run-left, done-sound}
+use Rattle.stepping.specs.Stepped.{written, hostedOf}
+
+module _ (st : State) (table marks output : List ℕ) (d : Sound st table marks) where
+  abbrev made : Hosted
+  made = callRuns mostSteps (st .progressions) st table marks 0
+
+  all-once : NoneRepeats same (indexOf st) (all st table)
+  all-once ps i = let r = in-of-map (positionsFor st table) (span 0 (st .progressions)) i in subst (λ qs. NoRepeats qs) (r .2) (once st table (r .0))
+
+  -- the calls list what has no mark when it is reached
+  lists : listingOf made ≡ listing (indexOf st) (all st table) marks
+  lists =
+      let few = d .few in
+      let e : 0 + st .progressions ≡ st .progressions = omega arith in
+      calls-went st table marks (sound-means st table marks .1 d) mostSteps (omega arith) .lists-all
+      ∙ ap (λ (m : ℕ). runAll same (indexOf st) (map (positionsFor st table) (span 0 m)) marks) e
+      ∙ run-all same (indexOf st) (all st table) marks all-once
+
+  hosted-total : hostedOf (st .progressions) st table marks 0 output 0 ≡ totalOf (indexOf st) marks output 0 (fromOn st table 0)
+  unfolding hostedOf totalOf
+  hosted-total = ap (λ (r : Listing Position). written output 0 (r .packets) (r .marks)) lists
+
+  hosted-few : hostedOf (st .progressions) st table marks 0 output 0 .count ≤ 65536
+  hosted-few = let e = ap (λ (t : Total). t .count) hosted-total in omega (arith, e, count-few st table marks d output)
+
+-- a setup that passed: the calls over what it left list few packets, and leave what the whole run leaves
+module _ (sheet table marks output : List ℕ) {r : SetUp} {t m : List ℕ} {z : ℤ} (h : SetUpLeft sheet table marks output r t m z) (bytes : Bytes sheet)
+    (v : runVerdict sheet table marks output ≡ 0) where
+  pub passed-few : hostedOf (r .state .progressions) (r .state) t m 0 output 0 .count ≤ 65536
+  passed-few = hosted-few (r .state) t m output (done-sound sheet table marks output h bytes v)
+
+  pub passed-left : {n : ℕ} {mx ox : List ℕ}
+      → _≡_ {A = Total} (record { count = n; marks = mx; output = ox }) (hostedOf (r .state .progressions) (r .state) t m 0 output 0)
+      → Left sheet table marks output (pos n) t mx ox
+  passed-left ran = run-left sheet table marks output h bytes v (ran ∙ hosted-total (r .state) t m output (done-sound sheet table marks output h bytes v))
