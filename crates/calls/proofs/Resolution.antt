@@ -3,13 +3,11 @@ use mathlib.Core.Path.{_≡_, ap}
 use mathlib.Core.List.{List}
 use Prim.Native.Nat.{ℕ, _+_, _*_, _<_}
 use native.Mathlib.Omega.{arith}
-use borrow.Author.Tests.{lt-ltb}
-use Rattle.laws.specs.Below.{sum-most}
-use Rattle.words.specs.Words.{wordAt}
-use Rattle.packets.specs.Tile.{Sheet, lineX, lineY, width, precincts, dxOf, dyOf, resOf, levelOf, entriesBefore}
+use Rattle.packets.specs.Tile.{Sheet, lineX, lineY, width, precincts, entriesBefore}
 use Rattle.types.specs.Entries.{entryAt}
-use Rattle.packets.specs.Table.{sheetAt}
-use Rattle.packets.specs.Meaning.{Sound, EntryIn}
+use Rattle.packets.specs.Table.{entryOf, sheetAt}
+use Rattle.packets.specs.Meaning.{Sound}
+use Rattle.packets.specs.Entered.{entry-small, entry-is}
 use Rattle.packets.specs.Met.{precincts-of}
 use Rattle.types.specs.declared.state.State.{State}
 use Rattle.types.specs.declared.cursor.Position.{Position}
@@ -30,26 +28,19 @@ module _ (st : State) (table : List ℕ) (p : Position) (r : Reached st table p)
 
   -- it is one of 528
   pub small : at < 528
-  unfolding entriesBefore
-  small =
-      let b = sum-most (resOf st) 33 (p .compno) (λ c h. sound .component c (omega (arith, r .component)) .resolutions .1) in
-      omega (arith, b, few-before, r .resolution, sound .component (p .compno) (r .component) .resolutions .1)
+  small = entry-small st table (r .fit .marks) sound (p .compno) (p .resno) (r .component) (r .resolution)
 
-  entry : EntryIn st table (p .compno) (p .resno)
-  entry = sound .entry (p .compno) (r .component) (p .resno) (r .resolution)
+  entry : entryAt table at ≡ entryOf s (p .compno) (p .resno)
+  entry = entry-is st table (r .fit .marks) sound (p .compno) (p .resno) (r .component) (r .resolution)
 
   pub wide-is : entryAt table at .width ≡ width s (p .compno) (p .resno)
-  unfolding entryAt
-  wide-is = rw (lt-ltb at 528 small) (entry .wide)
+  wide-is = rw entry
 
   pub count-is : entryAt table at .width * entryAt table at .height ≡ precincts s (p .compno) (p .resno)
-  unfolding entryAt
-  count-is = rw (precincts-of s (p .compno) (p .resno) (r .resolution), lt-ltb at 528 small, entry .wide, entry .high)
+  count-is = rw (precincts-of s (p .compno) (p .resno) (r .resolution), entry)
 
   pub along-x : alongX st (entryAt table at) p ≡ lineX s (p .compno) (p .resno)
-  unfolding entryAt
-  along-x = rw (lt-ltb at 528 small) (ap (λ (k : ℕ). record { t0 = st .tx0; t1 = st .tx1; d = dxOf st (p .compno); level = levelOf st (p .compno) (p .resno); pd = wordAt table k }) (omega arith))
+  along-x = rw entry
 
   pub along-y : alongY st (entryAt table at) p ≡ lineY s (p .compno) (p .resno)
-  unfolding entryAt
-  along-y = rw (lt-ltb at 528 small) (ap (λ (k : ℕ). record { t0 = st .ty0; t1 = st .ty1; d = dyOf st (p .compno); level = levelOf st (p .compno) (p .resno); pd = wordAt table k }) (omega arith))
+  along-y = rw entry

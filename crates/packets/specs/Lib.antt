@@ -34,6 +34,7 @@ pub mod Fields
 pub mod Alike
 pub mod SetupSound
 pub mod Meaning
+pub mod Entered
 pub mod Steps
 pub mod Turns
 pub mod Run

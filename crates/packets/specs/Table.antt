@@ -7,10 +7,15 @@ use Rattle.words.specs.Words.{wordAt, wordsBytes}
 use Rattle.packets.specs.Sheet.{wd, resolutionRecord, fieldsOf}
 use Rattle.packets.specs.Tile.{Sheet, resOf, width, height, entriesBefore}
 use Rattle.types.specs.declared.state.State.{State}
+use Rattle.types.specs.declared.table.Entry.{Entry}
 
 -- 01: four words for each resolution (pdx, pdy, width, height), component after component
 abbrev pub entry : Sheet → ℕ → ℕ → List ℕ
 entry s c r = s .pdx c r ∷ s .pdy c r ∷ width s c r ∷ height s c r ∷ []
+
+-- the same as one value
+abbrev pub entryOf : Sheet → ℕ → ℕ → Entry
+entryOf s c r = record { pdx = s .pdx c r; pdy = s .pdy c r; width = width s c r; height = height s c r }
 
 abbrev pub wordsIn : Sheet → ℕ → List ℕ
 wordsIn s c = gather (entry s c) (span 0 (resOf (s .st) c))

@@ -5,22 +5,19 @@ use mathlib.Core.List.{List}
 use mathlib.Core.Logic.{⊎-elim}
 use native.Mathlib.Omega.{arith}
 use lib.ListN.{getD}
-use borrow.Author.Tests.{lt-ltb}
 use Rattle.laws.specs.Cases.{le-or-lt}
-use Rattle.laws.specs.Below.{sum-most}
-use Rattle.words.specs.Words.{wordAt}
-use Rattle.packets.specs.Tile.{resOf, precincts, entriesBefore, indexOf}
-use Rattle.types.specs.Entries.{entryAt}
-use Rattle.packets.specs.Table.{entryWord, sheetAt}
+use Rattle.packets.specs.Tile.{resOf, precincts, indexOf}
+use Rattle.packets.specs.Table.{sheetAt}
 use Rattle.packets.specs.Good.{Good}
 use Rattle.packets.specs.Met.{precincts-of, precincts-in}
 use Rattle.packets.specs.Inside.{Inside}
 use Rattle.packets.specs.Once.{index-below}
 use Rattle.packets.specs.Meaning.{StepsFit, Sound, sound-means, sound-good}
+use Rattle.packets.specs.Entered.{few-before, entry-is}
 use Rattle.types.specs.declared.state.State.{State}
 use Rattle.types.specs.declared.cursor.Position.{Position}
 use Rattle.walks.specs.Prepared.{InPlay}
-use Rattle.walks.specs.Prepare.{Filled, entryOf, Components, AllDone}
+use Rattle.walks.specs.Prepare.{Filled, Components, AllDone}
 use Rattle.walks.specs.Filling.{all-filled}
 
 -- the numbers of a state's tile are prepared
@@ -45,20 +42,7 @@ module _ (st : State) (table marks : List ℕ) (w : Sound st table marks) where
   few-precincts c r h =
       ⊎-elim (λ z. omega arith) (λ z. few-of c r h (precincts-in (sheetAt st table) c r z) z) (le-or-lt (precincts (sheetAt st table) c r) 0)
 
-  -- IT CAN BE PREPARED: an entry is what the sheet says of its resolution
-  before : (c : ℕ) → c < st .components → entriesBefore st c ≤ 33 * c
-  unfolding entriesBefore
-  before c h = sum-most (resOf st) 33 c (λ i q. w .component i (omega arith) .resolutions .1)
-
-  entry-is : (c r : ℕ) → c < st .components → r < resOf st c → entryAt table (entriesBefore st c + r) ≡ entryOf (sheetAt st table) c r
-  unfolding entryAt
-  entry-is c r h k =
-      let at : ℕ = entriesBefore st c + r in
-      let small : at < 528 = omega (arith, before c h, w .tile .components .1, w .component c h .resolutions .1) in
-      let e = w .entry c h r k in
-      let first : wordAt table (16 * at) ≡ entryWord st table 0 c r = ap (wordAt table) (omega arith) in
-      rw (lt-ltb at 528 small, first, e .wide, e .high)
-
+  -- IT CAN BE PREPARED
   pub sound-components : Components st table
   sound-components =
       record {
@@ -73,8 +57,8 @@ module _ (st : State) (table marks : List ℕ) (w : Sound st table marks) where
               small-y = k .dy .1;
               levels = k .resolutions .1;
               components = omega (arith, w .tile .components .1);
-              near = omega (arith, before c h, w .tile .components .1);
-              entry = λ r q. entry-is c r h q;
+              near = omega (arith, few-before st table marks w c h, w .tile .components .1);
+              entry = λ r q. entry-is st table marks w c r h q;
               exponent-x = λ r q. w .entry c h r q .pdx;
               exponent-y = λ r q. w .entry c h r q .pdy;
               few = λ r q. rw (precincts-of (sheetAt st table) c r q) at (few-precincts c r h);

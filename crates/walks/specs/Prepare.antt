@@ -10,7 +10,7 @@ use Rattle.geometry.specs.Axis.{axisOf}
 use Rattle.packets.specs.Tile.{Sheet, dxOf, dyOf, resOf, width, height, precincts, entriesBefore}
 use Rattle.packets.specs.Grid.{stepX, stepY}
 use Rattle.types.specs.Entries.{entryAt}
-use Rattle.packets.specs.Table.{sheetAt}
+use Rattle.packets.specs.Table.{entryOf, sheetAt}
 use Rattle.types.specs.declared.state.State.{State}
 use Rattle.types.specs.declared.table.Entry.{Entry as TableEntry}
 use Rattle.walks.specs.declared.prepared.Along.{Along}
@@ -52,10 +52,6 @@ Fitting s c r = 0 < precincts s c r → (stepX s c r ≤ 4294967295) × (stepY s
 -- what is written of a resolution, where its steps fit: all that a walk by points needs
 abbrev pub Filled : Sheet → List ℕ → ℕ → ℕ → Type 0
 Filled s prep r c = Fitting s c r → Entry s prep r c
-
--- 01: what the table says of a resolution
-abbrev pub entryOf : Sheet → ℕ → ℕ → TableEntry
-entryOf s c r = record { pdx = s .pdx c r; pdy = s .pdy c r; width = width s c r; height = height s c r }
 
 -- component c of a sheet, with n resolutions, along both axes: its entries stand in a table from number base on
 pub record Component (s : Sheet) (table : List ℕ) (base c n : ℕ) (x y : Side) : Type 0 where
