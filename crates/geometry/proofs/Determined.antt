@@ -7,8 +7,6 @@ use Rattle.geometry.proofs.axis.Axis.at.Kinds as axis-at-kinds
 use Rattle.geometry.proofs.axis.Axis.at.Reads as axis-at
 use Rattle.geometry.proofs.axis.Resolution.columns.Kinds as columns-kinds
 use Rattle.geometry.proofs.axis.Resolution.columns.Reads as columns
-use Rattle.geometry.proofs.axis.inside.Kinds as inside-kinds
-use Rattle.geometry.proofs.axis.inside.Reads as inside
 use Rattle.geometry.proofs.axis.step.Kinds as step-kinds
 use Rattle.geometry.proofs.axis.step.Reads as step
 use Rattle.geometry.proofs.axis.Line.meets.Kinds as meets-kinds
@@ -35,6 +33,8 @@ use Rattle.geometry.proofs.math.uint_floordivpow2.Kinds as uint-floordi
 use Rattle.geometry.proofs.math.uint_floordivpow2.Reads as uint-floordivpow2
 use Rattle.geometry.proofs.math.uint_ceildivpow2.Kinds as uint-ceildivpow2-kinds
 use Rattle.geometry.proofs.math.uint_ceildivpow2.Reads as uint-ceildivpow2
+use Rattle.geometry.proofs.power.uneven.Kinds as uneven-kinds
+use Rattle.geometry.proofs.power.uneven.Reads as uneven
 use Rattle.geometry.proofs.tile.tile_bounds.Kinds as tile-bounds-kinds
 use Rattle.geometry.proofs.tile.tile_bounds.Reads as tile-bounds
 use Rattle.geometry.proofs.precinct.component_bound.Kinds as component-bound-kinds
@@ -52,9 +52,6 @@ axis-at-determined κs a r s e f = determined _ r s
 
 pub columns-determined : OneAnswer columns-kinds.ps columns-kinds.r columns.Post
 columns-determined κs a r s e f = determined _ r s
-
-pub inside-determined : OneAnswer inside-kinds.ps inside-kinds.r inside.Post
-inside-determined κs a r s e f = determined _ r s
 
 pub step-determined : OneAnswer step-kinds.ps step-kinds.r step.Post
 step-determined κs a r s e f = determined _ r s
@@ -94,6 +91,9 @@ uint-floordivpow2-determined κs a r s e f = determined-by ofWord word-apart _ r
 
 pub uint-ceildivpow2-determined : OneAnswer uint-ceildivpow2-kinds.ps uint-ceildivpow2-kinds.r uint-ceildivpow2.Post
 uint-ceildivpow2-determined κs a r s e f = determined-by ofWord word-apart _ r s
+
+pub uneven-determined : OneAnswer uneven-kinds.ps uneven-kinds.r uneven.Post
+uneven-determined κs a r s e f = determined _ r s
 
 pub tile-bounds-determined : OneAnswer tile-bounds-kinds.ps tile-bounds-kinds.r tile-bounds.Post
 tile-bounds-determined κs a r s e f = determined-by ofTile tile-apart _ r s

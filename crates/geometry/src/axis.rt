@@ -1,9 +1,9 @@
 // One axis of the tile (01, 'Geometry' and 'Ranges and orders'): the bounds of a component, computed once, and of its resolutions, their precincts and the
 // step from one to the next, and the points at which these are met. They are computed here and nowhere else. Every function answers for every argument.
 use crate::ceiling;
+use crate::power;
 ghost use mathlib.Core.Path.{_≡_};
-ghost use mathlib.Core.Bool.{not};
-ghost use Prim.Native.Nat.{_+_, _*_, _/_, _%_, _^_};
+ghost use Prim.Native.Nat.{_+_, _*_, _%_, _^_};
 ghost use lib.Dec.{eqb};
 ghost use Rattle.geometry.specs.Line.{boundOf, columnOf, meetsAt};
 ghost use Rattle.geometry.specs.Axis.{axisOf, resolutionOf, columnsOf, lineOf};
@@ -56,35 +56,17 @@ impl Axis {
     }
 }
 
-// a / 2^by rounded down.
-fn floored(a: u32, by: u32) -> u32
-    ensures { λ r. ⌜ r ≡ a / 2 ^ by ⌝ }
-{
-    if by < 32 { a >> by } else { 0 }
-}
-
 impl Resolution {
     // Its precincts of 2^pd samples; an axis with no sample has none, and its first number is that of its start.
     pub fn columns(self, pd: u32) -> Columns
         ensures { λ r. ⌜ r ≡ columnsOf self pd ⌝ }
     {
-        let first = floored(self.r0, pd);
+        let first = power::floored(self.r0, pd);
         if self.r1 <= self.r0 {
             return Columns { first, count: 0 };
         }
         let count = ceiling::shifted(self.r1, pd) - first;
         Columns { first, count }
-    }
-}
-
-// The sample r0 lies inside a precinct of 2^pd samples, and not at its start.
-pub fn inside(r0: u32, pd: u32) -> bool
-    ensures { λ r. ⌜ r ≡ not (eqb (r0 % 2 ^ pd) 0) ⌝ }
-{
-    if pd < 32 {
-        r0 % (1u32 << pd) != 0
-    } else {
-        r0 != 0
     }
 }
 
@@ -131,7 +113,7 @@ impl Line {
             return true;
         }
         if x == self.t0 {
-            return inside(self.sample(x), self.pd);
+            return power::uneven(self.sample(x), self.pd);
         }
         false
     }
@@ -140,8 +122,8 @@ impl Line {
     pub fn column(self, x: u32) -> u32
         ensures { λ r. ⌜ r ≡ columnOf (lineOf self) x ⌝ }
     {
-        let first = floored(self.sample(self.t0), self.pd);
-        let at = floored(self.sample(x), self.pd);
+        let first = power::floored(self.sample(self.t0), self.pd);
+        let at = power::floored(self.sample(x), self.pd);
         if at < first { 0 } else { at - first }
     }
 }

@@ -3,5 +3,6 @@
 pub mod axis;
 pub mod ceiling;
 pub mod math;
+pub mod power;
 pub mod precinct;
 pub mod tile;

@@ -3,6 +3,7 @@ use crate::prepared::Along;
 use crate::prepared::put_numbers;
 use geometry::axis;
 use geometry::axis::Axis;
+use geometry::power;
 use types::state::State;
 use types::table::Entry;
 ghost use mathlib.Core.Path.{_≡_};
@@ -16,7 +17,7 @@ ghost use Rattle.walks.specs.Prepare.{sideOf, SideIn, alongBy, Resolutio
 fn start(t: u32, low: u32, pd: u32) -> u32
     ensures { λ r. ⌜ r ≡ cond (eqb (low % 2 ^ pd) 0) 4294967295 t ⌝ }
 {
-    if axis::inside(low, pd) {
+    if power::uneven(low, pd) {
         t
     } else {
         0xffff_ffff

@@ -36,12 +36,12 @@ returns-3 c = let a = c .before .before .before .before .before .before .before 
 sample-requires : tie.Need-sample-requires
 sample-requires c κs = search needs
 
-inside-requires : tie.Need-inside-requires
-inside-requires c κs = search needs
+uneven-requires : tie.Need-uneven-requires
+uneven-requires c κs = search needs
 
 returns-4 : tie.Need-returns-4
 returns-4 c = let a = c .before .before .before .before .before .before .before .before .before .before .before .args in
-    c .inside .ensures
+    c .uneven .ensures
     ∙ rw (c .before .sample .ensures)
     (on-start (lineOf (a .self)) (a .x) (omega arith) (omega arith) (sym (stepped (c .before .before .before .before .before)) ∙ c .before .before .before .before .if3 .left) (c .before .before .if4 .taken))
 
@@ -59,6 +59,6 @@ meets-spec =
     multiple-requires
     returns-3
     sample-requires
-    inside-requires
+    uneven-requires
     returns-4
     returns-5)

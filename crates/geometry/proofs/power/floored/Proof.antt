@@ -4,8 +4,8 @@ use lib.Pow.{pow-mono}
 use native.Mathlib.Nat.{div-eq-of-lt}
 use native.Mathlib.Omega.{arith}
 use borrow.Author.Needs.{needs}
-use Rattle.geometry.proofs.axis.floored.Statement.{statement}
-use Rattle.geometry.proofs.axis.floored.Tie as tie
+use Rattle.geometry.proofs.power.floored.Statement.{statement}
+use Rattle.geometry.proofs.power.floored.Tie as tie
 
 shr-result : tie.Need-shr-result
 shr-result c = search needs
