@@ -71,7 +71,7 @@ $(ARCHIVE): $(CRATES)
 	@tools/prove staticlib host
 	@touch $@
 
-target/native/lib%.a: tools/native-archive $(CRATES)
+target/native/lib%.a: tools/native-archive tools/compile-again $(CRATES)
 	@tools/native-archive $*
 
 target/c/host: examples/host/host.c include/bonxigarth.h $(ARCHIVE)
