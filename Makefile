@@ -1,5 +1,5 @@
 # The commands of the README.
-.PHONY: test check mutants differential fuzz bench slow vectors list host archive native install fmt clean
+.PHONY: test check mutants differential fuzz bench slow controller vectors list host archive native install fmt clean
 
 SHEET ?= sheets/a
 PREFIX ?= /usr/local
@@ -37,6 +37,10 @@ bench: $(NATIVE)
 
 slow: $(NATIVE)
 	tools/bench slow --limit 60 --search 5000
+
+# The library routines for 64 bits that each export reaches on a small 32-bit controller.
+controller:
+	tools/controller
 
 # The stored answers that the program crates/vectors replays: the Rust's and the model's.
 vectors:

@@ -1,5 +1,5 @@
 // Quotients rounded up, a number for every argument: for loops in which a refusal would be in the way.
-use crate::math::uint_min;
+use crate::power;
 ghost use mathlib.Core.Path.{_≡_};
 ghost use Prim.Native.Nat.{_^_};
 ghost use Rattle.laws.specs.Ceiling.{ceilDiv};
@@ -15,15 +15,10 @@ pub fn divided(a: u32, b: u32) -> u32
     if a % b == 0 { q } else { q + 1 }
 }
 
-// a / 2^by rounded up.
+// a / 2^by rounded up, in 32 bits: a shift, and a test of the bits that it drops.
 pub fn shifted(a: u32, by: u32) -> u32
     ensures { λ r. ⌜ r ≡ ceilDiv a (2 ^ by) ⌝ }
 {
-    if by < 64 {
-        let unit = 1u64 << by;
-        let sum = (a as u64) + unit - 1;
-        (sum >> by) as u32
-    } else {
-        uint_min(a, 1)
-    }
+    let q = power::floored(a, by);
+    if power::uneven(a, by) { q + 1 } else { q }
 }

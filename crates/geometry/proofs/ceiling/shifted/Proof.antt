@@ -1,38 +1,39 @@
--- `shifted`: the sum fits 64 bits, and the shift is the division; by 64 or more nothing is left but whether there was something. Assumes nothing.
-use mathlib.Core.Path.{sym, _∙_}
-use Rattle.laws.specs.Ceiling.{ceil-small, ceil-one}
-use Rattle.laws.specs.Numbers.{one-shl}
-use lib.Pow.{pow-mono, pow-pos}
-use Prim.Native.Nat.{_^_}
+-- `shifted`: the shift is the quotient, and that is the ceiling where nothing is left over, and one less where something is. Assumes nothing.
+use mathlib.Core.Path.{_≡_, sym, _∙_}
+use Prim.Native.Nat.{_+_, _%_, _^_}
+use lib.Pow.{pow-pos}
+use Rattle.laws.specs.Cases.{not-true, not-false}
+use Rattle.laws.specs.Ceiling.{ceilDiv, ceil-on, ceil-off, ceil-small}
 use native.Mathlib.Omega.{arith}
 use borrow.Author.Needs.{needs}
+use borrow.Author.Tests.{eqb-true, eqb-false}
 use Rattle.geometry.proofs.ceiling.shifted.Statement.{statement}
 use Rattle.geometry.proofs.ceiling.shifted.Tie as tie
 
-shl-unit : tie.Need-shl-unit
-shl-unit c = search needs
+floored-requires : tie.Need-floored-requires
+floored-requires c κs = search needs
 
-add-sum : tie.Need-add-sum
-add-sum c = let by = c .before .args .by in rw (one-shl 64 by (c .if1 .taken)) (omega (arith, pow-mono {i = by} {j = 63} (omega arith)))
+uneven-requires : tie.Need-uneven-requires
+uneven-requires c κs = search needs
 
-sub-sum : tie.Need-sub-sum
-sub-sum c = let by = c .before .args .by in rw (one-shl 64 by (c .if1 .taken)) (omega (arith, pow-pos by))
+-- where something is left over
+up : (c : tie.Then1) → ceilDiv (c .before .before .before .args .a) (2 ^ c .before .before .before .args .by) ≡ c .before .before .floored .result + 1
+up c =
+    let a = c .before .before .before .args in
+    ceil-off (2 ^ a .by) (pow-pos (a .by)) (a .a) (eqb-false (a .a % 2 ^ a .by) 0 (not-true _ (sym (c .before .uneven .ensures) ∙ c .if1 .taken)))
+    ∙ rw (c .before .before .floored .ensures)
 
-shr-result : tie.Need-shr-result
-shr-result c = search needs
-
-cast-result : tie.Need-cast-result
-cast-result c = let a = c .before .args in rw (one-shl 64 (a .by) (c .if1 .taken)) (omega (arith, ceil-small (2 ^ a .by) (pow-pos (a .by)) (a .a)))
-
-uint-min-requires : tie.Need-uint-min-requires
-uint-min-requires c κs = search needs
+add-result : tie.Need-add-result
+add-result c = let a = c .before .before .before .args in omega (arith, up c, ceil-small (2 ^ a .by) (pow-pos (a .by)) (a .a))
 
 returns : tie.Need-returns
-returns c = rw (one-shl 64 (c .before .args .by) (c .if1 .taken))
+returns c = sym (up c)
 
 returns-2 : tie.Need-returns-2
-returns-2 c = let a = c .before .before .args in
-    c .uint-min .ensures ∙ sym (ceil-one (2 ^ a .by) (pow-pos (a .by)) (a .a) (omega (arith, pow-mono {i = 32} {j = a .by} (omega (arith, c .before .if1 .left)))))
+returns-2 c =
+    let a = c .before .before .before .args in
+    c .before .before .floored .ensures
+    ∙ sym (ceil-on (2 ^ a .by) (pow-pos (a .by)) (a .a) (eqb-true (a .a % 2 ^ a .by) 0 (not-false _ (sym (c .before .uneven .ensures) ∙ c .if1 .left))))
 
 pub shifted-spec : {M : Type 1} → statement M
-shifted-spec = tie.close (tie.spec shl-unit add-sum sub-sum shr-result cast-result uint-min-requires returns returns-2)
+shifted-spec = tie.close (tie.spec floored-requires uneven-requires add-result returns returns-2)
