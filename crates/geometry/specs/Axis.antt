@@ -1,11 +1,14 @@
--- An axis as the code holds it: the numbers of a component and of its resolutions, in the words of Line; and that a step modulo 2^64 tests every
--- 32-bit point as the step does. Assumes nothing.
-use Prim.Native.Nat.{ℕ, zero, suc, _+_, _-_, _*_, _/_, _%_, _^_, _≤_, _<_}
-use mathlib.Core.Path.{_≡_, sym, _∙_}
+-- An axis as the code holds it: the numbers of a component and of its resolutions, in the words of Line; and that a step which is 0 where it does not
+-- fit 32 bits tests every 32-bit point as the step does. Assumes nothing.
+use Prim.Native.Nat.{ℕ, zero, suc, _*_, _/_, _%_, _^_, _≤_, _<_}
+use mathlib.Core.Path.{_≡_}
+use mathlib.Core.Bool.{cond}
 use mathlib.Core.Logic.{⊎-elim}
-use native.Mathlib.Nat.{mul-assoc, mul-mod-left, mod-zero, mod-eq-of-lt}
+use native.Mathlib.Nat.{zero-mul, suc-mul, mod-zero, mod-eq-of-lt}
 use native.Mathlib.Omega.{arith}
-use lib.Pow.{pow-add, shl-exact, mod-mod-pow}
+use lib.Dec.{leb}
+use lib.Pow.{pow-mono}
+use borrow.Author.Tests.{le-leb, lt-leb}
 use Rattle.laws.specs.Cases.{le-or-lt}
 use Rattle.laws.specs.Ceiling.{ceilDiv}
 use Rattle.geometry.specs.Precinct.{across}
@@ -31,32 +34,25 @@ columnsOf r pd = record { first = r .r0 / 2 ^ pd; count = across (r .r0) (r .r1)
 abbrev pub lineOf : Line → line.Line
 lineOf l = record { t0 = l .t0; t1 = l .t1; d = l .d; level = l .level; pd = l .pd }
 
--- A STEP of d·2^by points, modulo 2^64
-pub step-far : (d by : ℕ) → 64 ≤ by → 0 ≡ d * 2 ^ by % 2 ^ 64
-step-far d by h =
-    let e : by ≡ (by - 64) + 64 = omega arith in
-    rw (e, pow-add 2 (by - 64) 64, ← (mul-assoc d (2 ^ (by - 64)) (2 ^ 64)), mul-mod-left (d * 2 ^ (by - 64)) (2 ^ 64))
+-- A STEP that does not fit 32 bits (01, 'Agreed grid') is 0
+abbrev pub fitted : ℕ → ℕ
+fitted n = cond (leb n 4294967295) n 0
 
--- of the components and resolutions of a sheet it is exact
-pub step-exact : (d by : ℕ) → d ≤ 255 → by ≤ 47 → d * 2 ^ by % 2 ^ 64 ≡ d * 2 ^ by
-step-exact d by h k = shl-exact 8 by 64 (omega arith) (omega arith)
+pub fitted-small : (n : ℕ) → n ≤ 4294967295 → fitted n ≡ n
+fitted-small n h = rw (le-leb _ _ h)
 
--- no point but 0 is a multiple of a multiple of 2^33
-own-remainder : (x a : ℕ) → x < 2 ^ 32 → a % 2 ^ 33 ≡ 0 → x % a ≡ x
-own-remainder x zero h e = mod-zero x
-own-remainder x (suc a) h e =
+pub fitted-large : (n : ℕ) → 4294967295 < n → fitted n ≡ 0
+fitted-large n h = rw (lt-leb _ _ h)
+
+-- shifted by 32 or more it fits only if it is 0
+pub fitted-far : (d by : ℕ) → 32 ≤ by → fitted (d * 2 ^ by) ≡ 0
+fitted-far zero by h = rw (zero-mul (2 ^ by))
+fitted-far (suc d) by h = fitted-large (suc d * 2 ^ by) (omega (arith, pow-mono {i = 32} {j = by} h, suc-mul d (2 ^ by)))
+
+-- it has the multiples among the points that the step has
+pub fitted-multiple : (x n : ℕ) → x < 2 ^ 32 → x % fitted n ≡ x % n
+fitted-multiple x n h =
     ⊎-elim
-    (λ (l : 2 ^ 33 ≤ suc a). mod-eq-of-lt (omega arith))
-    (λ (l : suc a < 2 ^ 33). absurd (let n : ⊥ = omega (arith, mod-eq-of-lt l) in n))
-    (le-or-lt (2 ^ 33) (suc a))
-
--- modulo 2^64 a step has the multiples among the points that it has
-pub step-wrapped : (x d by : ℕ) → x < 2 ^ 32 → d < 2 ^ 32 → x % (d * 2 ^ by % 2 ^ 64) ≡ x % (d * 2 ^ by)
-step-wrapped x d by h k =
-    ⊎-elim
-    (λ (l : by ≤ 32). rw (shl-exact 32 by 64 k (omega arith)))
-    (λ (l : 32 < by).
-    let e : by ≡ (by - 33) + 33 = omega arith in
-    let z : d * 2 ^ by % 2 ^ 33 ≡ 0 = rw (e, pow-add 2 (by - 33) 33, ← (mul-assoc d (2 ^ (by - 33)) (2 ^ 33))) (mul-mod-left (d * 2 ^ (by - 33)) (2 ^ 33)) in
-    own-remainder x (d * 2 ^ by % 2 ^ 64) h (mod-mod-pow (d * 2 ^ by) 31 33 ∙ z) ∙ sym (own-remainder x (d * 2 ^ by) h z))
-    (le-or-lt by 32)
+    (λ (l : n ≤ 4294967295). rw (fitted-small n l))
+    (λ (l : 4294967295 < n). let k : x < n = omega arith in rw (fitted-large n l, mod-zero x, mod-eq-of-lt k))
+    (le-or-lt n 4294967295)

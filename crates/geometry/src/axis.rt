@@ -6,7 +6,7 @@ ghost use mathlib.Core.Path.{_≡_};
 ghost use Prim.Native.Nat.{_+_, _*_, _%_, _^_};
 ghost use lib.Dec.{eqb};
 ghost use Rattle.geometry.specs.Line.{boundOf, columnOf, meetsAt};
-ghost use Rattle.geometry.specs.Axis.{axisOf, resolutionOf, columnsOf, lineOf};
+ghost use Rattle.geometry.specs.Axis.{axisOf, resolutionOf, columnsOf, lineOf, fitted};
 
 // A component: its bounds, and its step, XRsiz or YRsiz.
 pub struct Axis {
@@ -70,25 +70,29 @@ impl Resolution {
     }
 }
 
-// From a precinct to the next in points of the grid, modulo 2^64.
-pub fn step(d: u32, level: u32, pd: u32) -> u64
-    ensures { λ r. ⌜ r ≡ d * 2 ^ (pd + level) % 2 ^ 64 ⌝ }
+// From a precinct to the next in points of the grid; 0 where that does not fit 32 bits.
+pub fn step(d: u32, level: u32, pd: u32) -> u32
+    ensures { λ r. ⌜ r ≡ fitted (d * 2 ^ (pd + level)) ⌝ }
 {
-    let by = (pd as u64) + (level as u64);
-    if by < 64 { (d as u64) << by } else { 0 }
+    if pd < 32 {
+        if level < 32 - pd {
+            let by = pd + level;
+            if d <= 0xffff_ffff >> by {
+                return d << by;
+            }
+        }
+    }
+    0
 }
 
-// Point x is a multiple of the step. One that does not fit 32 bits has no multiple among the points but 0.
-fn multiple(x: u32, step: u64) -> bool
+// Point x is a multiple of the step. One that does not fit has no multiple among the points but 0.
+fn multiple(x: u32, step: u32) -> bool
     ensures { λ r. ⌜ r ≡ eqb (x % step) 0 ⌝ }
 {
     if step == 0 {
         return x == 0;
     }
-    if 0xffff_ffff < step {
-        return x == 0;
-    }
-    x % (step as u32) == 0
+    x % step == 0
 }
 
 impl Line {

@@ -1,32 +1,22 @@
 -- The grid is agreed for every progression if the steps have the most that one of them wants. Assumes nothing.
-use mathlib.Core.Path.{_≡_, refl, sym, _∙_}
+use mathlib.Core.Path.{_≡_, refl, _∙_}
 use mathlib.Core.Bool.{Bool, true, false, _&&_, _||_}
 use mathlib.Core.Logic.{⊎-elim}
 use Prim.Native.Nat.{ℕ, zero, suc, _%_, _≤_, _<_, max}
 use native.Mathlib.Omega.{arith}
-use lib.Dec.{leb, eqb}
+use lib.Dec.{eqb}
 use borrow.Author.Tests.{eqb-false, ne-eqb}
 use Rattle.laws.specs.Cases.{le-or-lt, and-true, and-false, split}
 use Rattle.laws.specs.Below.{allBelow, maxBelow}
 use Rattle.laws.specs.Pointwise.{all-same}
-use Rattle.laws.specs.Extremes.{leb-max, all-leb, all-and}
+use Rattle.laws.specs.Extremes.{all-and}
 use Rattle.packets.specs.Tile.{Sheet, resOf}
 use Rattle.types.specs.Orders.{orderOf}
 use Rattle.types.specs.declared.order.Order.{Order}
 use Rattle.types.specs.declared.order.Order.the-variants.{Lrcp as lrcp, Rlcp as rlcp, Rpcl as rpcl, Pcrl as pcrl, Cprl as cprl, NoPositions as other}
 use Rattle.packets.specs.Grid.{everywhere, stepX, stepY, smallest, stepsFit, stepsDivide, agreed, changeOf, gridAgreed}
 use Rattle.survey.specs.Passing.{wantOf, wantedOf, hasWanted}
-use Rattle.survey.proofs.Over.{stepMost}
 use Rattle.survey.proofs.Orders.{wantAt}
-
--- every step fits if the largest does
-pub fit-is : (s : Sheet) → stepsFit s ≡ leb (maxBelow (λ c. maxBelow (stepMost s c) (resOf (s .st) c)) (s .st .components)) 4294967295
-unfolding stepsFit
-fit-is s =
-    all-same _ _ (s .st .components)
-    (λ c h.
-    all-same _ _ (resOf (s .st) c) (λ r k. sym (leb-max (stepX s c r) (stepY s c r) 4294967295)) ∙ all-leb (stepMost s c) 4294967295 (resOf (s .st) c))
-    ∙ all-leb (λ c. maxBelow (stepMost s c) (resOf (s .st) c)) 4294967295 (s .st .components)
 
 -- the two axes one after the other
 pub divide-axes : (s : Sheet)

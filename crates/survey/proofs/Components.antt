@@ -1,15 +1,19 @@
 -- A resolution by what the axis answers, and what is held after r resolutions of a component, and its next turn: one resolution more, or nothing.
 -- Assumes nothing.
 use mathlib.Core.Path.{_≡_, refl, sym, ap, _∙_}
-use mathlib.Core.Bool.{Bool, true, false}
+use mathlib.Core.Bool.{Bool, true, false, cond, not}
 use mathlib.Core.List.{List}
-use Prim.Native.Nat.{ℕ, _+_, _-_, _*_, _%_, _^_, _≤_, _<_}
-use native.Mathlib.Nat.{mul-add, mul-one, mul-zero, mul-le-mul-left}
+use mathlib.Core.Logic.{⊎-elim}
+use Prim.Native.Nat.{ℕ, _+_, _-_, _*_, _≤_, _<_, min}
+use native.Mathlib.Nat.{mul-add, mul-one, mul-zero, mul-pos, mul-le-mul-left}
 use native.Mathlib.Omega.{arith}
-use Rattle.laws.specs.Cases.{cond-told}
-use Rattle.laws.specs.Below.{allBelow, all-none, all-more, all-fails, max-none, max-more, min-none, min-more}
+use lib.Dec.{leb, eqb}
+use lib.Pow.{pow-pos}
+use borrow.Author.Tests.{le-leb, lt-leb, ne-eqb}
+use Rattle.laws.specs.Cases.{le-or-lt, cond-told}
+use Rattle.laws.specs.Below.{allBelow, all-none, all-next, all-more, all-fails, max-none, max-more, min-none, min-more}
 use Rattle.words.specs.Words.{wordAt}
-use Rattle.geometry.specs.Axis.{resolutionOf, columnsOf, step-exact}
+use Rattle.geometry.specs.Axis.{resolutionOf, columnsOf, fitted, fitted-small, fitted-large}
 use Rattle.geometry.specs.declared.axis.Axis.{Axis}
 use Rattle.geometry.specs.declared.axis.Columns.{Columns}
 use Rattle.geometry.specs.declared.axis.Resolution.{Resolution}
@@ -19,12 +23,30 @@ use Rattle.survey.specs.declared.places.Places.{Places}
 use Rattle.survey.specs.declared.axes.Axes.{Axes}
 use Rattle.survey.specs.declared.sums.Sums.{Sums}
 
--- the axis answers a resolution's precincts, and its step, which is exact where d, level and pd are in range
+-- the axis answers a resolution's precincts
 pub count-by : (a : Axis) (level pd : ℕ) {r : Resolution} {k : Columns} → r ≡ resolutionOf a level → k ≡ columnsOf r pd → k .count ≡ countOf a level pd
 count-by a level pd h e = ap (λ (k : Columns). k .count) (e ∙ ap (λ (r : Resolution). columnsOf r pd) h)
 
-pub step-by : (a : Axis) (level pd : ℕ) {n : ℕ} → a .d < 256 → level ≤ 32 → pd ≤ 15 → n ≡ a .d * 2 ^ (pd + level) % 2 ^ 64 → n ≡ strideOf a level pd
-step-by a level pd h k l e = e ∙ step-exact (a .d) (pd + level) (omega arith) (omega arith)
+-- and its step, which is above 0: what is 0 does not fit, and leaves the smallest
+pub stride-above : (a : Axis) (level pd : ℕ) → 1 ≤ a .d → 1 ≤ strideOf a level pd
+stride-above a level pd h = mul-pos h (pow-pos (pd + level))
+
+module _ (n : ℕ) (some : 1 ≤ n) where
+  small : n ≤ 4294967295 → eqb (fitted n) 0 ≡ false
+  small h = rw (fitted-small n h) (ne-eqb n 0 (λ z. omega arith))
+
+  large : 4294967295 < n → eqb (fitted n) 0 ≡ true
+  large h = rw (fitted-large n h)
+
+  pub fitted-told : not (eqb (fitted n) 0) ≡ leb n 4294967295
+  fitted-told = ⊎-elim (λ h. rw (small h, le-leb _ _ h)) (λ h. rw (large h, lt-leb _ _ h)) (le-or-lt n 4294967295)
+
+  pub fitted-least : (m : ℕ) → m ≤ 4294967295 → cond (eqb (fitted n) 0) m (min m (fitted n)) ≡ min m n
+  fitted-least m k =
+      ⊎-elim
+      (λ h. rw (small h, fitted-small n h))
+      (λ (h : 4294967295 < n). rw (large h) (let e : m ≡ min m n = omega arith in e))
+      (le-or-lt n 4294967295)
 
 -- a resolution's sums, by what is tested of it
 module _ (e : List ℕ) (p : ℕ) (check : Bool) (a : Axes) (level : ℕ) where
@@ -55,7 +77,7 @@ pub record Taken (e : List ℕ) (p : Places) (check : Bool) (a : Axes) (n at : �
 
 pub taken-none : (e : List ℕ) (p : Places) (check : Bool) (a : Axes) (n : ℕ) → Taken e p check a n (p .first) startSums 0
 unfolding passed
-taken-none e p check a n = record { there = omega (arith, mul-zero (p .apart)); sums = rw (max-none, max-none, min-none, min-none); fine = all-none _ }
+taken-none e p check a n = record { there = omega (arith, mul-zero (p .apart)); sums = rw (max-none, all-none, min-none, min-none); fine = all-none _ }
 
 module _ {e : List ℕ} {p : Places} {check : Bool} {a : Axes} {n at : ℕ} {s : Sums} {r : ℕ} (k : Taken e p check a n at s r) where
   -- the sums with the next
@@ -70,7 +92,7 @@ module _ {e : List ℕ} {p : Places} {check : Bool} {a : Axes} {n at : ℕ} {s :
         let f : entryFine e (exponentsAt p r) check a (n - 1 - r) ≡ true = sym good-is ∙ g in
         record {
           there = rw (k .there) (place-next p r);
-          sums = rw (is, k .there, f, k .sums, max-more, max-more, min-more, min-more);
+          sums = rw (is, k .there, f, k .sums, max-more, all-next, min-more, min-more);
           fine = all-more _ r (k .fine) f;
         }
 

@@ -1,5 +1,5 @@
 -- What the survey finds once every component is passed: each number is the sheet's. Assumes nothing.
-use mathlib.Core.Path.{_≡_, sym, ap, _∙_}
+use mathlib.Core.Path.{_≡_, refl, sym, ap, _∙_}
 use mathlib.Core.Bool.{Bool, true, cond, _&&_}
 use mathlib.Core.List.{List}
 use Prim.Native.Nat.{ℕ, _+_, _≤_, _<_, min}
@@ -17,7 +17,7 @@ use Rattle.survey.specs.Ranges.{Ranged, in-range}
 use Rattle.survey.proofs.Bases.{placeIn}
 use Rattle.survey.proofs.Over.{rangedAt, goodOver, foundOver, sumsTo}
 use Rattle.survey.proofs.Steps.{least-above, divide-is, clip-is}
-use Rattle.survey.proofs.Agreed.{fit-is, divide-axes, grid-wants, wants-same}
+use Rattle.survey.proofs.Agreed.{divide-axes, grid-wants, wants-same}
 use Rattle.survey.proofs.Seen.{sheetBy, Seen}
 
 module _ {e : List ℕ} {p : Places} {check : Bool} {st : State} {here : Places} {all : Sums} {deep : ℕ} {xs ys : List ℕ}
@@ -57,11 +57,11 @@ module _ {e : List ℕ} {p : Places} {check : Bool} {st : State} {here : Places}
       let y = divide-is st (dyOf st) by-y (λ c h. ranged c h .dy-low) (λ c h. ranged c h .n-low) (λ c r h l. steps-small fit c r h l .1) ys (s .least-y) in
       rw (s .sums) (divide-axes (sheetBy e p st) ∙ (λ i. x i && y i))
 
-  grid-is : agreedOf (wantedOf st) (all .largest) xs (all .«x_least») ys (all .«y_least») (st .components) ≡ gridAgreed (sheetBy e p st)
-  unfolding agreedOf sumsTo
+  grid-is : agreedOf (wantedOf st) (all .fit) xs (all .«x_least») ys (all .«y_least») (st .components) ≡ gridAgreed (sheetBy e p st)
+  unfolding agreedOf stepsFit sumsTo
   grid-is =
       let t : Sheet = sheetBy e p st in
-      let fit : stepsFit t ≡ leb (all .largest) 4294967295 = rw (s .sums) (fit-is t) in
+      let fit : stepsFit t ≡ all .fit = rw (s .sums) refl in
       let both : Bool = multiples xs (st .components) (all .«x_least») && multiples ys (st .components) (all .«y_least») in
       sym (grid-wants t ∙ wants-same (wantedOf st) (stepsFit t) (stepsDivide t) both divides ∙ ap (λ (f : Bool). hasWanted (wantedOf st) f both) fit)
 

@@ -3,10 +3,10 @@
 use mathlib.Core.Path.{_≡_, refl, subst, ap}
 use mathlib.Core.Bool.{Bool, true, cond, _&&_, _||_, not}
 use mathlib.Core.List.{List}
-use Prim.Native.Nat.{ℕ, _+_, _*_, max}
+use Prim.Native.Nat.{ℕ, _+_, _*_}
 use lib.Dec.{leb, eqb}
 use borrow.Author.Tests.{lt-ltb}
-use Rattle.laws.specs.Below.{allBelow, maxBelow, max-none, max-more, minBelow, min-none, min-more}
+use Rattle.laws.specs.Below.{allBelow, all-none, all-next, maxBelow, max-none, max-more, minBelow, min-none, min-more}
 use Rattle.laws.specs.Pointwise.{max-same}
 use Rattle.words.specs.Words.{wordAt}
 use Rattle.geometry.specs.Line.{count, boundOf}
@@ -52,9 +52,9 @@ survey-over e at check st q p = subst (λ (q : ℕ → ℕ → ℕ). surveyOf e 
 abbrev pub tileOf : State → Area
 tileOf st = record { x0 = st .tx0; y0 = st .ty0; x1 = st .tx1; y1 = st .ty1 }
 
--- the larger of the steps on the two axes
-abbrev pub stepMost : Sheet → ℕ → ℕ → ℕ
-stepMost s c r = max (stepX s c r) (stepY s c r)
+-- the steps on both axes fit
+abbrev stepFits : Sheet → ℕ → ℕ → Bool
+stepFits s c r = leb (stepX s c r) 4294967295 && leb (stepY s c r) 4294967295
 
 -- the smallest step of a component, but for the largest 32-bit number
 abbrev pub leastIn : (ℕ → ℕ → ℕ) → State → ℕ → ℕ
@@ -66,7 +66,7 @@ partSums s c =
     record {
       good = true;
       most = maxBelow (precincts s c) (resOf (s .st) c);
-      largest = maxBelow (stepMost s c) (resOf (s .st) c);
+      fit = allBelow (stepFits s c) (resOf (s .st) c);
       «x_least» = leastIn (stepX s) (s .st) c;
       «y_least» = leastIn (stepY s) (s .st) c;
     }
@@ -76,19 +76,19 @@ sumsTo s k =
     record {
       good = true;
       most = maxBelow (λ c. maxBelow (precincts s c) (resOf (s .st) c)) k;
-      largest = maxBelow (λ c. maxBelow (stepMost s c) (resOf (s .st) c)) k;
+      fit = allBelow (λ c. allBelow (stepFits s c) (resOf (s .st) c)) k;
       «x_least» = minBelow 4294967295 (leastIn (stepX s) (s .st)) k;
       «y_least» = minBelow 4294967295 (leastIn (stepY s) (s .st)) k;
     }
 
 pub sums-none : (s : Sheet) → sumsTo s 0 ≡ startSums
 unfolding sumsTo
-sums-none s = rw (max-none, max-none, min-none, min-none)
+sums-none s = rw (max-none, all-none, min-none, min-none)
 
 pub sums-more : (s : Sheet) (c : ℕ) → joinedSums (sumsTo s c) (partSums s c) ≡ sumsTo s (c + 1)
 unfolding sumsTo
 sums-more s c =
-    rw (max-more (λ c. maxBelow (precincts s c) (resOf (s .st) c)) c, max-more (λ c. maxBelow (stepMost s c) (resOf (s .st) c)) c, min-more 4294967295 (leastIn (stepX s) (s .st)) c, min-more 4294967295 (leastIn (stepY s) (s .st)) c)
+    rw (max-more (λ c. maxBelow (precincts s c) (resOf (s .st) c)) c, all-next (λ c. allBelow (stepFits s c) (resOf (s .st) c)) c, min-more 4294967295 (leastIn (stepX s) (s .st)) c, min-more 4294967295 (leastIn (stepY s) (s .st)) c)
 
 -- what the pass over a component gives
 pub component-is : (e : List ℕ) (q : ℕ → ℕ → ℕ) (check : Bool) (st : State) (c : ℕ)
@@ -103,7 +103,7 @@ component-is e q check st c =
     (record {
       good = true;
       most = m;
-      largest = maxBelow (stepMost (sheetOver e q st) c) (resOf st c);
+      fit = allBelow (stepFits (sheetOver e q st) c) (resOf st c);
       «x_least» = leastIn (stepX (sheetOver e q st)) st c;
       «y_least» = leastIn (stepY (sheetOver e q st)) st c;
     })

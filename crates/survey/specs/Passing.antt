@@ -40,17 +40,17 @@ entryOf a level pdx pdy = record { pdx = pdx; pdy = pdy; width = countOf (a .x) 
 
 -- SUMS: of nothing yet, of something out of range, with a resolution, and of two groups
 abbrev pub startSums : Sums
-startSums = record { good = true; most = 0; largest = 0; «x_least» = 4294967295; «y_least» = 4294967295 }
+startSums = record { good = true; most = 0; fit = true; «x_least» = 4294967295; «y_least» = 4294967295 }
 
 abbrev pub noSums : Sums
-noSums = record { good = false; most = 0; largest = 0; «x_least» = 0; «y_least» = 0 }
+noSums = record { good = false; most = 0; fit = false; «x_least» = 0; «y_least» = 0 }
 
 abbrev pub withEntry : Sums → Axes → ℕ → Entry → Sums
 withEntry s a level entry =
     record {
       good = true;
       most = max (s .most) (entry .width * entry .height);
-      largest = max (s .largest) (max (strideOf (a .x) level (entry .pdx)) (strideOf (a .y) level (entry .pdy)));
+      fit = s .fit && (leb (strideOf (a .x) level (entry .pdx)) 4294967295 && leb (strideOf (a .y) level (entry .pdy)) 4294967295);
       «x_least» = min (s .«x_least») (strideOf (a .x) level (entry .pdx));
       «y_least» = min (s .«y_least») (strideOf (a .y) level (entry .pdy));
     }
@@ -60,7 +60,7 @@ joinedSums a b =
     record {
       good = true;
       most = max (a .most) (b .most);
-      largest = max (a .largest) (b .largest);
+      fit = a .fit && b .fit;
       «x_least» = min (a .«x_least») (b .«x_least»);
       «y_least» = min (a .«y_least») (b .«y_least»);
     }
@@ -95,7 +95,7 @@ passed e q a n k =
     record {
       good = true;
       most = maxBelow (λ r. precinctsAt e (q r) a (n - 1 - r)) k;
-      largest = maxBelow (λ r. max (strideX e (q r) a (n - 1 - r)) (strideY e (q r) a (n - 1 - r))) k;
+      fit = allBelow (λ r. leb (strideX e (q r) a (n - 1 - r)) 4294967295 && leb (strideY e (q r) a (n - 1 - r)) 4294967295) k;
       «x_least» = minBelow 4294967295 (λ r. strideX e (q r) a (n - 1 - r)) k;
       «y_least» = minBelow 4294967295 (λ r. strideY e (q r) a (n - 1 - r)) k;
     }
@@ -138,8 +138,8 @@ multiples l n m = allBelow (λ c. eqb (getD l c 0 % m) 0) n
 abbrev pub hasWanted : ℕ → Bool → Bool → Bool
 hasWanted wanted fit divide = eqb wanted 0 || (fit && (eqb wanted 1 || divide))
 
-unfoldable pub agreedOf : ℕ → ℕ → List ℕ → ℕ → List ℕ → ℕ → ℕ → Bool
-agreedOf wanted largest xs x ys y n = hasWanted wanted (leb largest 4294967295) (multiples xs n x && multiples ys n y)
+unfoldable pub agreedOf : ℕ → Bool → List ℕ → ℕ → List ℕ → ℕ → ℕ → Bool
+agreedOf wanted fit xs x ys y n = hasWanted wanted fit (multiples xs n x && multiples ys n y)
 
 -- MARKS
 abbrev pub neededOf : ℕ → ℕ → ℕ → ℕ → ℕ
@@ -158,7 +158,7 @@ unfoldable pub findingsOf : ℕ → ℕ → ℕ → ℕ → Sums → List ℕ �
 findingsOf wanted layers components res all xs ys =
     record {
       good = true;
-      grid = agreedOf wanted (all .largest) xs (all .«x_least») ys (all .«y_least») components;
+      grid = agreedOf wanted (all .fit) xs (all .«x_least») ys (all .«y_least») components;
       few = marksOf layers res components (all .most) .few;
       needed = marksOf layers res components (all .most) .needed;
       «max_prec» = marksOf layers res components (all .most) .«max_prec»;

@@ -42,7 +42,7 @@ fn resolution(
     kept: &mut [u32],
     to: usize,
 ) -> Sums
-    requires { ⌜ (at < 65536) × (level ≤ 32) × (axes .x .d < 256) × (axes .y .d < 256) × (to < 65536) ⌝ }
+    requires { ⌜ (at < 65536) × (1 ≤ axes .x .d) × (1 ≤ axes .y .d) × (to < 65536) ⌝ }
     ensures sums { λ r. ⌜ r ≡ entrySums (now (e .entry)) at check axes level held ⌝ }
     ensures keeps { λ r. ⌜ Keeps (now (kept .entry)) (now (kept .exit)) to (r .good) (entryWords (now (e .entry)) at axes level) ⌝ }
 {
@@ -71,7 +71,7 @@ fn resolutions(
     kept: &mut [u32],
     to: usize,
 ) -> Sums
-    requires { ⌜ (places .first + places .apart * n < 65536) × (n ≤ 33) × (axes .x .d < 256) × (axes .y .d < 256) × (to < 32768) ⌝ }
+    requires { ⌜ (places .first + places .apart * n < 65536) × (n ≤ 33) × (1 ≤ axes .x .d) × (1 ≤ axes .y .d) × (to < 32768) ⌝ }
     ensures sums { λ r. ⌜ r ≡ resolutionSums (now (e .entry)) (exponentsAt places) check axes n ⌝ }
     ensures keeps { λ r. ⌜ Keeps (now (kept .entry)) (now (kept .exit)) to (r .good) (resolutionWords (now (e .entry)) (exponentsAt places) axes n n) ⌝ }
 {

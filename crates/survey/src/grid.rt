@@ -51,11 +51,11 @@ fn all_multiples(numbers: &[u32; State::COMPONENT_PLACES], n: usize, m: u32) -> 
     true
 }
 
-// The steps have what is wanted of them: their largest, and on each axis the smallest of each of n components and of all. Within a component every
+// The steps have what is wanted of them: whether all fit, and on each axis the smallest of each of n components and of all. Within a component every
 // step is its own times a power of two, so that the smallest divides the others: one number a component is enough.
 pub(crate) fn agreed(
     wanted: u32,
-    largest: u64,
+    fit: bool,
     xs: &[u32; State::COMPONENT_PLACES],
     x: u32,
     ys: &[u32; State::COMPONENT_PLACES],
@@ -63,12 +63,12 @@ pub(crate) fn agreed(
     n: usize,
 ) -> bool
     requires { ⌜ (n ≤ 16) × (0 < x) × (0 < y) ⌝ }
-    ensures { λ r. ⌜ r ≡ agreedOf wanted largest (now (xs .entry)) x (now (ys .entry)) y n ⌝ }
+    ensures { λ r. ⌜ r ≡ agreedOf wanted fit (now (xs .entry)) x (now (ys .entry)) y n ⌝ }
 {
     if wanted == 0 {
         return true;
     }
-    if 0xffff_ffff < largest {
+    if !fit {
         return false;
     }
     if wanted == 1 {

@@ -77,7 +77,7 @@ impl Findings {
             good: true,
             grid: grid::agreed(
                 wanted,
-                all.largest,
+                all.fit,
                 xs,
                 all.x_least,
                 ys,

@@ -1,18 +1,20 @@
-// What is gathered over resolutions: the largest precinct count, the largest step, and the smallest step on each axis.
+// What is gathered over resolutions: the largest precinct count, whether every step fits 32 bits, and the smallest step on each axis.
 use crate::axes::Axes;
 use geometry::axis;
 use geometry::math;
 use types::table::Entry;
 ghost use mathlib.Core.Path.{_≡_};
-ghost use Prim.Native.Nat.{_≤_, _<_, min, max};
+ghost use mathlib.Core.Bool.{cond};
+ghost use Prim.Native.Nat.{_≤_, min, max};
+ghost use lib.Dec.{eqb};
 ghost use Rattle.survey.specs.Passing.{noSums, startSums, withEntry, joinedSums};
 
 pub(crate) struct Sums {
-    // everything passed was good; else all numbers are 0
+    // everything passed was good; else no step fits, and all numbers are 0
     pub good: bool,
     pub most: u64,
-    // of both axes
-    pub largest: u64,
+    // every step of both axes
+    pub fit: bool,
     // 0xffff_ffff where there is none, or where each is larger
     pub x_least: u32,
     pub y_least: u32,
@@ -22,6 +24,17 @@ pub(crate) fn larger(a: u64, b: u64) -> u64
     ensures { λ r. ⌜ r ≡ max a b ⌝ }
 {
     if a < b { b } else { a }
+}
+
+// The smaller of a number and a step; one that does not fit is 0, and larger than every number.
+fn least(held: u32, step: u32) -> u32
+    ensures { λ r. ⌜ r ≡ cond (eqb step 0) held (min held step) ⌝ }
+{
+    if step == 0 {
+        held
+    } else {
+        math::uint_min(held, step)
+    }
 }
 
 pub(crate) fn smaller(a: u32, b: u64) -> u32
@@ -38,7 +51,7 @@ impl Sums {
         Sums {
             good: true,
             most: 0,
-            largest: 0,
+            fit: true,
             x_least: 0xffff_ffff,
             y_least: 0xffff_ffff,
         }
@@ -51,7 +64,7 @@ impl Sums {
         Sums {
             good: false,
             most: 0,
-            largest: 0,
+            fit: false,
             x_least: 0,
             y_least: 0,
         }
@@ -59,7 +72,7 @@ impl Sums {
 
     // With a resolution of this level.
     pub(crate) fn with(self, axes: Axes, level: u32, entry: Entry) -> Self
-        requires { ⌜ (level ≤ 32) × (axes .x .d < 256) × (axes .y .d < 256) × (entry .pdx ≤ 15) × (entry .pdy ≤ 15) ⌝ }
+        requires { ⌜ (1 ≤ axes .x .d) × (1 ≤ axes .y .d) ⌝ }
         ensures { λ r. ⌜ r ≡ withEntry self axes level entry ⌝ }
     {
         let step_x = axis::step(axes.x.d, level, entry.pdx);
@@ -67,9 +80,9 @@ impl Sums {
         Sums {
             good: true,
             most: larger(self.most, (entry.width as u64) * (entry.height as u64)),
-            largest: larger(self.largest, larger(step_x, step_y)),
-            x_least: smaller(self.x_least, step_x),
-            y_least: smaller(self.y_least, step_y),
+            fit: self.fit & ((step_x != 0) & (step_y != 0)),
+            x_least: least(self.x_least, step_x),
+            y_least: least(self.y_least, step_y),
         }
     }
 
@@ -80,7 +93,7 @@ impl Sums {
         Sums {
             good: true,
             most: larger(self.most, b.most),
-            largest: larger(self.largest, b.largest),
+            fit: self.fit & b.fit,
             x_least: math::uint_min(self.x_least, b.x_least),
             y_least: math::uint_min(self.y_least, b.y_least),
         }

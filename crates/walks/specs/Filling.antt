@@ -1,9 +1,8 @@
 -- What was written is what the walks by points need. Assumes nothing.
-use Prim.Native.Nat.{ℕ, _+_, _-_, _*_, _%_, _≤_, _<_}
+use Prim.Native.Nat.{ℕ, _+_, _-_, _*_, _≤_, _<_}
 use mathlib.Core.Path.{_≡_, refl, _∙_}
 use mathlib.Core.List.{List}
 use mathlib.Core.Logic.{⊎-elim}
-use native.Mathlib.Nat.{mod-eq-of-lt}
 use native.Mathlib.Omega.{arith}
 use lib.ListN.{length, getD, set, length-set}
 use lib.Seq.{getD-set-same, getD-set-other}
@@ -11,6 +10,7 @@ use borrow.Author.Tests.{le-ltb}
 use Rattle.laws.specs.Cases.{le-or-lt}
 use Rattle.laws.specs.Below.{sum-none, sum-more}
 use Rattle.geometry.specs.Line.{Line, boundOf, step}
+use Rattle.geometry.specs.Axis.{fitted-small}
 use Rattle.geometry.specs.Hits.{whole-law}
 use Rattle.packets.specs.Tile.{Sheet, lineX, lineY, resOf, precincts, entriesBefore}
 use Rattle.types.specs.Entries.{entryAt}
@@ -116,7 +116,7 @@ module _ (prep : List ℕ) (r c wide : ℕ) (x y : Along) where
 -- as a line has them, where its step fits
 line-along : (l : Line) → step l ≤ 4294967295 → alongBy (sideOf (l .t0) (l .d)) (l .level) (l .pd) ≡ alongOf l
 unfolding alongBy boundOf
-line-along l h = let e : step l % 4294967296 ≡ step l = mod-eq-of-lt (omega arith) in rw (e, whole-law l)
+line-along l h = rw (fitted-small (step l) h, whole-law l)
 
 -- WHERE THE ENTRIES of a component stand
 pub entries-none : (st : State) → entriesBefore st 0 ≡ 0
@@ -134,17 +134,8 @@ entry-count s table base c n x y h r k = rw (h .entry r k, precincts-of s c r (r
 
 module _ (s : Sheet) (table : List ℕ) (base c n : ℕ) (x y : Side) (h : Component s table base c n x y) (r : ℕ) (k : r < n) where
   -- it is in range
-  pub entry-in : ResolutionIn r c (n - 1 - r) (entryAt table (base + r)) x y
-  entry-in =
-      let m : n - 1 - r ≤ 32 = omega (arith, h .levels) in
-      rw (h .entry r k, h .side-x, h .side-y)
-      (record {
-        resolutions = omega (arith, h .levels);
-        components = h .components;
-        on-x = record { small = h .small-x; levels = m; exponents = h .exponent-x r k };
-        on-y = record { small = h .small-y; levels = m; exponents = h .exponent-y r k };
-        few = h .few r k;
-      })
+  pub entry-in : ResolutionIn r c (entryAt table (base + r))
+  entry-in = record { resolutions = omega (arith, h .levels); components = h .components; few = rw (h .entry r k) (h .few r k) }
 
   -- and its numbers are right
   pub entry-filled : (prep : List ℕ) → length prep ≡ 3696 → Filled s (putEntry prep r c (n - 1 - r) (entryAt table (base + r)) x y) r c

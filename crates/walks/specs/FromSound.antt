@@ -53,14 +53,10 @@ module _ (st : State) (table marks : List ℕ) (w : Sound st table marks) where
               resolutions = refl;
               side-x = refl;
               side-y = refl;
-              small-x = k .dx .1;
-              small-y = k .dy .1;
               levels = k .resolutions .1;
               components = omega (arith, w .tile .components .1);
               near = omega (arith, few-before st table marks w c h, w .tile .components .1);
               entry = λ r q. entry-is st table marks w c r h q;
-              exponent-x = λ r q. w .entry c h r q .pdx;
-              exponent-y = λ r q. w .entry c h r q .pdy;
               few = λ r q. rw (precincts-of (sheetAt st table) c r q) at (few-precincts c r h);
             };
       }

@@ -6,7 +6,7 @@ use mathlib.Core.List.{List}
 use lib.ListN.{length}
 use lib.Dec.{ltb, eqb}
 use Rattle.laws.specs.Ceiling.{ceilDiv}
-use Rattle.geometry.specs.Axis.{axisOf}
+use Rattle.geometry.specs.Axis.{axisOf, fitted}
 use Rattle.packets.specs.Tile.{Sheet, dxOf, dyOf, resOf, width, height, precincts, entriesBefore}
 use Rattle.packets.specs.Grid.{stepX, stepY}
 use Rattle.types.specs.Entries.{entryAt}
@@ -21,24 +21,16 @@ use Rattle.walks.specs.Prepared.{widthIn, alongX, alongY, putNumbers, En
 abbrev pub sideOf : ℕ → ℕ → Side
 sideOf t d = record { t = t; axis = axisOf t t d }
 
--- a component, a level and an exponent in range
-pub record SideIn (a : Side) (level pd : ℕ) : Type 0 where
-  pub small : a .axis .d ≤ 255
-  pub levels : level ≤ 32
-  pub exponents : pd ≤ 15
-
 -- what is prepared for a resolution along it
 unfoldable pub alongBy : Side → ℕ → ℕ → Along
 alongBy a level pd =
     let low = ceilDiv (a .axis .c0) (2 ^ level) in
-    record { step = a .axis .d * 2 ^ (pd + level) % 4294967296; start = cond (eqb (low % 2 ^ pd) 0) 4294967295 (a .t); first = low / 2 ^ pd }
+    record { step = fitted (a .axis .d * 2 ^ (pd + level)); start = cond (eqb (low % 2 ^ pd) 0) 4294967295 (a .t); first = low / 2 ^ pd }
 
 -- a resolution, by its entry of the table
-pub record ResolutionIn (r c level : ℕ) (e : TableEntry) (x y : Side) : Type 0 where
+pub record ResolutionIn (r c : ℕ) (e : TableEntry) : Type 0 where
   pub resolutions : r < 33
   pub components : c < 16
-  pub on-x : SideIn x level (e .pdx)
-  pub on-y : SideIn y level (e .pdy)
   pub few : e .width * e .height ≤ 65536
 
 abbrev pub putEntry : List ℕ → ℕ → ℕ → ℕ → TableEntry → Side → Side → List ℕ
@@ -58,14 +50,10 @@ pub record Component (s : Sheet) (table : List ℕ) (base c n : ℕ) (x y : Side
   pub resolutions : n ≡ resOf (s .st) c
   pub side-x : x ≡ sideOf (s .st .tx0) (dxOf (s .st) c)
   pub side-y : y ≡ sideOf (s .st .ty0) (dyOf (s .st) c)
-  pub small-x : dxOf (s .st) c ≤ 255
-  pub small-y : dyOf (s .st) c ≤ 255
   pub levels : n ≤ 33
   pub components : c < 16
   pub near : base ≤ 495
   pub entry : (r : ℕ) → r < n → entryAt table (base + r) ≡ entryOf s c r
-  pub exponent-x : (r : ℕ) → r < n → s .pdx c r ≤ 15
-  pub exponent-y : (r : ℕ) → r < n → s .pdy c r ≤ 15
   pub few : (r : ℕ) → r < n → width s c r * height s c r ≤ 65536
 
 abbrev pub SomeComponent : List ℕ → ℕ → ℕ → ℕ → Side → Side → Type 0

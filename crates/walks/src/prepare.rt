@@ -11,7 +11,7 @@ ghost use mathlib.Core.Bool.{cond};
 ghost use Prim.Native.Nat.{_%_, _^_};
 ghost use lib.Dec.{ltb, eqb};
 ghost use lib.ListN.{length};
-ghost use Rattle.walks.specs.Prepare.{sideOf, SideIn, alongBy, ResolutionIn, putEntry, SomeComponent, Done, Components, AllDone};
+ghost use Rattle.walks.specs.Prepare.{sideOf, alongBy, ResolutionIn, putEntry, SomeComponent, Done, Components, AllDone};
 
 // The tile's start where it lies inside a precinct, else what no point is.
 fn start(t: u32, low: u32, pd: u32) -> u32
@@ -48,16 +48,15 @@ impl Side {
         }
     }
 
-    // A resolution's numbers along it; the step is modulo 2^32.
+    // A resolution's numbers along it; the step is 0 where it does not fit.
     fn along(self, level: u32, pd: u32) -> Along
-        requires { ⌜ SideIn self level pd ⌝ }
         ensures { λ a. ⌜ a ≡ alongBy self level pd ⌝ }
     {
         let a = self.axis;
         let r = a.at(level);
         let columns = r.columns(pd);
         Along {
-            step: (axis::step(a.d, level, pd) % 0x1_0000_0000) as u32,
+            step: axis::step(a.d, level, pd),
             start: start(self.t, r.r0, pd),
             first: columns.first,
         }
@@ -74,7 +73,7 @@ fn prepare_entry(
     x: Side,
     y: Side,
 )
-    requires { ⌜ ResolutionIn r c level e x y ⌝ }
+    requires { ⌜ ResolutionIn r c e ⌝ }
     ensures { λ _. ⌜ now (prep .exit) ≡ putEntry (now (prep .entry)) r c level e x y ⌝ }
 {
     let wide = shown(e.width, e.width * e.height);

@@ -28,7 +28,7 @@ resolutions-requires c κs =
     let a = c .before .before .before .before .before .before .args in
     let g = in-range (a .comp .dx) (a .comp .dy) (a .comp .resolutions) (ranged (c .before .before)) in
     let small : a .places .apart * a .comp .resolutions ≤ 32 * 33 = mul-le-mul (c .before .before .before .before .before .before .pre .1) (g .n-high) in
-    (omega arith, g .n-high, rw (c .before .of .ensures) (omega arith), rw (c .before .of .ensures) (omega arith), c .before .before .before .before .before .before .pre .2)
+    (omega arith, g .n-high, rw (c .before .of .ensures) (g .dx-low), rw (c .before .of .ensures) (g .dy-low), c .before .before .before .before .before .before .pre .2)
 
 none-requires : tie.Need-none-requires
 none-requires c κs = search needs

@@ -2,11 +2,9 @@
 use borrow.Author.Needs.{needs}
 use mathlib.Core.Path.{_≡_, sym, ap, _∙_}
 use mathlib.Core.Bool.{true}
-use Prim.Native.Nat.{_+_, _≤_}
-use lib.Dec.{leb}
-use borrow.Author.Tests.{leb-true}
+use Prim.Native.Nat.{_+_}
 use denote.Ref.{now}
-use Rattle.laws.specs.Cases.{and-true, not-true, not-false}
+use Rattle.laws.specs.Cases.{not-true, not-false}
 use Rattle.words.specs.Words.{wordAt}
 use Rattle.types.specs.Ranges.{exponentRange}
 use Rattle.types.specs.declared.table.Entry.{Entry}
@@ -23,19 +21,10 @@ use Rattle.survey.proofs.component.resolution.Tie as tie
 abbrev start : tie.After-entry → tie.Start
 start c = c .before .before .before .before .before .before .before
 
--- after the test: the entry is that of the exponents where they stand, and both are at most 15
+-- after the test: the entry is that of the exponents where they stand
 module _ (c : tie.After-entry) where
   ranged : exponentRange (c .before .before .before .before .word-at .result) (c .before .before .before .word-at2 .result) ≡ true
   ranged = sym (c .before .before .exponents-in-range .ensures) ∙ not-false _ (c .before .if1 .left)
-
-  low : (c .before .before .before .before .word-at .result ≤ 15) × (c .before .before .before .word-at2 .result ≤ 15)
-  low = let w = and-true (leb (c .before .before .before .before .word-at .result) 15) (leb (c .before .before .before .word-at2 .result) 15) ranged in (leb-true _ _ (w .0), leb-true _ _ (w .1))
-
-  low-x : c .entry .result .pdx ≤ 15
-  low-x = rw (c .entry .ensures) (low .0)
-
-  low-y : c .entry .result .pdy ≤ 15
-  low-y = rw (c .entry .ensures) (low .1)
 
   entry-is : c .entry .result ≡ entryFrom (now (start c .args .e)) (start c .args .at) (start c .args .axes) (start c .args .level)
   entry-is = c .entry .ensures ∙ (λ i. entryOf (start c .args .axes) (start c .args .level) (c .before .before .before .before .word-at .ensures i) (c .before .before .before .word-at2 .ensures i))
@@ -81,7 +70,7 @@ keep-requires : tie.Need-keep-requires
 keep-requires c κs = search needs
 
 with-requires : tie.Need-with-requires
-with-requires c κs = let p = start (c .before .before .before .before .before .before) .pre in (p .1, p .2, p .3, low-x (c .before .before .before .before .before .before), low-y (c .before .before .before .before .before .before))
+with-requires c κs = search needs
 
 none-requires-2 : tie.Need-none-requires-2
 none-requires-2 c κs = search needs

@@ -62,7 +62,7 @@ add-resolution c = omega arith
 resolution-requires : tie.Need-resolution-requires Inv-loop μ-loop
 resolution-requires c κs =
     let p = c .before .before .before .before .before .before .pre in
-    (omega (arith, next-near (c .before)), omega arith, p .2, p .3, omega arith)
+    (omega (arith, next-near (c .before)), p .2, p .3, omega arith)
 
 add-at : tie.Need-add-at Inv-loop μ-loop
 add-at c = omega (arith, next-near (c .before .before .before .before .before .before))

@@ -1,9 +1,9 @@
 -- `meets`: the tests of the code are those of the definition, one after the other. Assumes nothing.
 use mathlib.Core.Path.{_≡_, sym, _∙_}
-use Prim.Native.Nat.{_+_, _%_}
+use Prim.Native.Nat.{_%_}
 use lib.Dec.{eqb}
 use Rattle.geometry.specs.Line.{step}
-use Rattle.geometry.specs.Axis.{lineOf, step-wrapped}
+use Rattle.geometry.specs.Axis.{lineOf, fitted-multiple}
 use Rattle.geometry.proofs.Meeting.{before-tile, after-tile, on-step, on-start, on-none}
 use native.Mathlib.Omega.{arith}
 use borrow.Author.Needs.{needs}
@@ -15,7 +15,7 @@ stepped : (c : tie.After-multiple) → c .multiple .result ≡ eqb (c .before .b
 stepped c =
     let a = c .before .before .before .before .before .before .args in
     c .multiple .ensures
-    ∙ rw (c .before .step .ensures, step-wrapped (a .x) (a .self .d) (a .self .pd + a .self .level) (omega arith) (omega arith))
+    ∙ rw (c .before .step .ensures, fitted-multiple (a .x) (step (lineOf (a .self))) (omega arith))
 
 returns : tie.Need-returns
 returns c = let a = c .before .before .args in before-tile (lineOf (a .self)) (a .x) (c .if1 .taken)

@@ -1,9 +1,10 @@
--- `Sums::with`: the exponents are small, so that no step and no product passes its width. Assumes nothing.
+-- `Sums::with`: a step that does not fit is told by 0, since none is 0. Assumes nothing.
 use borrow.Author.Needs.{needs}
 use Prim.Native.Nat.{_^_, _<_}
 use native.Mathlib.Omega.{arith}
 use Rattle.laws.specs.Numbers.{product-fits}
-use Rattle.survey.proofs.Components.{step-by}
+use Rattle.survey.proofs.Components.{stride-above, fitted-told, fitted-least}
+use Rattle.survey.specs.Passing.{strideOf}
 use Rattle.survey.proofs.sums.Sums.with.Statement.{statement}
 use Rattle.survey.proofs.sums.Sums.with.Tie as tie
 
@@ -28,25 +29,21 @@ mul-larger c =
 larger-requires : tie.Need-larger-requires
 larger-requires c κs = search needs
 
-larger-requires-2 : tie.Need-larger-requires-2
-larger-requires-2 c κs = search needs
+least-requires : tie.Need-least-requires
+least-requires c κs = search needs
 
-larger-requires-3 : tie.Need-larger-requires-3
-larger-requires-3 c κs = search needs
-
-smaller-requires : tie.Need-smaller-requires
-smaller-requires c κs = search needs
-
-smaller-requires-2 : tie.Need-smaller-requires-2
-smaller-requires-2 c κs = search needs
+least-requires-2 : tie.Need-least-requires-2
+least-requires-2 c κs = search needs
 
 returns : tie.Need-returns
 returns c =
-    let a = c .before .before .before .before .before .before .before .before .before .args in
-    let p = c .before .before .before .before .before .before .before .before .before .pre in
-    let x = step-by (a .axes .x) (a .level) (a .entry .pdx) (p .1) (p .0) (p .3) (c .before .before .before .before .before .before .before .before .step .ensures) in
-    let y = step-by (a .axes .y) (a .level) (a .entry .pdy) (p .2) (p .0) (p .4) (c .before .before .before .before .before .before .before .step2 .ensures) in
-    rw (c .smaller2 .ensures, c .before .smaller .ensures, c .before .before .larger3 .ensures, c .before .before .before .larger2 .ensures, c .before .before .before .before .larger .ensures, x, y)
+    let z = c .before .before .before .before .before .before .before .before in
+    let a = z .args in
+    let x = strideOf (a .axes .x) (a .level) (a .entry .pdx) in
+    let y = strideOf (a .axes .y) (a .level) (a .entry .pdy) in
+    let p = stride-above (a .axes .x) (a .level) (a .entry .pdx) (z .pre .0) in
+    let q = stride-above (a .axes .y) (a .level) (a .entry .pdy) (z .pre .1) in
+    rw (c .least2 .ensures, c .before .least .ensures, c .before .before .before .larger .ensures, c .before .before .before .before .before .before .before .step .ensures, c .before .before .before .before .before .before .step2 .ensures, fitted-told x p, fitted-told y q, fitted-least x p (a .self .«x_least») (omega arith), fitted-least y q (a .self .«y_least») (omega arith))
 
 pub with-spec : {M : Type 1} → statement M
 with-spec =
@@ -58,8 +55,6 @@ with-spec =
     cast-larger-2
     mul-larger
     larger-requires
-    larger-requires-2
-    larger-requires-3
-    smaller-requires
-    smaller-requires-2
+    least-requires
+    least-requires-2
     returns)

@@ -1,10 +1,9 @@
--- `Side::along`: the three numbers are those of the definition; the step is exact. Assumes nothing.
+-- `Side::along`: the three numbers are those of the definition. Assumes nothing.
 use borrow.Author.Needs.{needs}
 use mathlib.Core.Path.{_≡_, ap}
-use Prim.Native.Nat.{_+_, _/_, _^_}
-use native.Mathlib.Omega.{arith}
+use Prim.Native.Nat.{_/_, _^_}
 use Rattle.laws.specs.Ceiling.{ceilDiv}
-use Rattle.geometry.specs.Axis.{columnsOf, step-exact}
+use Rattle.geometry.specs.Axis.{columnsOf}
 use Rattle.geometry.specs.declared.axis.Columns.{Columns}
 use Rattle.geometry.specs.declared.axis.Resolution.{Resolution}
 use Rattle.walks.specs.Prepare.{alongBy}
@@ -20,9 +19,6 @@ columns-requires c κs = search needs
 step-requires : tie.Need-step-requires
 step-requires c κs = search needs
 
-cast-t9 : tie.Need-cast-t9
-cast-t9 c = search needs
-
 start-requires : tie.Need-start-requires
 start-requires c κs = search needs
 
@@ -32,9 +28,8 @@ returns c =
     let w = c .before .before .before .before .before in
     let low : c .before .before .before .at .result .r0 ≡ ceilDiv (w .args .self .axis .c0) (2 ^ w .args .level) = ap (λ (r : Resolution). r .r0) (c .before .before .before .at .ensures) in
     let first : c .before .before .columns .result .first ≡ c .before .before .before .at .result .r0 / 2 ^ w .args .pd = ap (λ (k : Columns). k .first) (c .before .before .columns .ensures) in
-    let exact = step-exact (w .args .self .axis .d) (w .args .pd + w .args .level) (w .pre .small) (omega (arith, w .pre .levels, w .pre .exponents)) in
-    rw (c .start .ensures, c .before .step .ensures, exact, first, low)
+    rw (c .start .ensures, c .before .step .ensures, first, low)
 
 pub along-spec : {M : Type 1} → statement M
 along-spec =
-    tie.close (tie.spec at-requires columns-requires step-requires cast-t9 start-requires returns)
+    tie.close (tie.spec at-requires columns-requires step-requires start-requires returns)
