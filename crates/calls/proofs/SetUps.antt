@@ -2,14 +2,14 @@
 use mathlib.Core.Path.{_≡_, refl, sym, ap, _∙_}
 use mathlib.Core.Bool.{true, false}
 use mathlib.Core.List.{List}
-use Prim.Native.Nat.{ℕ, _-_, _*_, _^_, _≤_, _<_}
+use Prim.Native.Nat.{ℕ, _-_, _*_, _≤_, _<_}
 use native.Mathlib.Omega.{arith}
 use lib.ListN.{length, replicate}
 use lib.Dec.{leb, eqb}
 use lib.IntN.{ℤ, pos}
 use mir.Syntax.{w32}
 use mir.Val.{SFits, ofZ}
-use borrow.Author.Tests.{le-leb, lt-leb, leb-true, eq-eqb, ne-eqb, eqb-true}
+use borrow.Author.Tests.{le-leb, lt-leb, eq-eqb, ne-eqb, eqb-true}
 use Rattle.laws.specs.Cases.{and-both, split}
 use Rattle.laws.specs.Below.{sumBelow}
 use Rattle.words.specs.Words.{over}
@@ -29,8 +29,9 @@ use Rattle.types.specs.declared.answer.SetUp.{SetUp}
 use Rattle.reader.specs.Reader.{readOf}
 use Rattle.survey.specs.declared.Findings.{Findings}
 use Rattle.survey.specs.declared.Source.the-variants.{Records}
+use Rattle.survey.specs.Capped.{capped}
 use Rattle.survey.specs.Survey.{surveyed, surveyOf}
-use Rattle.survey.specs.Sources.{records-survey, prec-few}
+use Rattle.survey.specs.Sources.{records-survey, prec-exact}
 use Rattle.calls.specs.Reports.{withReports}
 use Rattle.calls.specs.Room.{roomFor, roomVerdict, setupIn}
 use Rattle.calls.specs.declared.output.Output.{Output}
@@ -118,15 +119,12 @@ module _ {b : List ℕ} {st : State} {f : Findings} (w : Seen b st f) (table mar
       needed-is : f .needed ≡ needed (reported s)
       needed-is = ap (λ (f : Findings). f .needed) found ∙ rw below refl
 
-      prec-is : f .«max_prec» ≡ maxPrec s
-      prec-is = ap (λ (f : Findings). f .«max_prec») found ∙ rw below refl
-
-      -- the largest precinct count fits 32 bits
-      pub prec-fits : f .«max_prec» < 2 ^ 32
-      prec-fits =
+      -- the largest precinct count is exact
+      prec-is : capped (maxPrec s) ≡ maxPrec s
+      prec-is =
           let t = tile-some (fieldsOf b) (tile-good b (read-good b (w .read))) in
           let l : 1 ≤ maxRes (fieldsOf b) = rw (← (w .fields)) (some-levels st fields-good) in
-          omega (arith, prec-is, prec-few s (t .0) l (t .1), leb-true (needed (reported s)) 65536 below)
+          prec-exact s (t .0) l (t .1) below
 
       pub refused-marks : length marks < f .needed → Refuses b table marks room 6
       unfolding setupVerdict
@@ -159,7 +157,7 @@ module _ {b : List ℕ} {st : State} {f : Findings} (w : Seen b st f) (table mar
 
         state-is : withReports st f ≡ reported s
         unfolding reported
-        state-is = (λ i. withReports (w .fields i) (found i)) ∙ rw below refl
+        state-is = (λ i. withReports (w .fields i) (found i)) ∙ rw (below, prec-is) refl
 
         -- accepted
         pub accepted-left : 16 * sumBelow (resOf st) (st .components) ≤ length table → roomFor room (f .needed) ≡ true

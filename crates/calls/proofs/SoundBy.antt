@@ -2,7 +2,7 @@
 use mathlib.Core.Path.{_≡_, refl, sym, ap, _∙_}
 use mathlib.Core.Bool.{Bool, true, false, cond, _&&_}
 use mathlib.Core.List.{List}
-use Prim.Native.Nat.{ℕ, _-_, _*_, _≤_, _<_, min}
+use Prim.Native.Nat.{ℕ, _*_, _≤_, _<_, min}
 use native.Mathlib.Omega.{arith}
 use lib.ListN.{length}
 use lib.Dec.{leb, eqb}
@@ -18,7 +18,7 @@ use Rattle.types.specs.declared.state.State.{State}
 use Rattle.survey.specs.declared.Findings.{Findings}
 use Rattle.survey.specs.declared.Source.the-variants.{Entries}
 use Rattle.survey.specs.Survey.{sheetFrom, surveyGood, surveyed, noSurvey, surveyOf}
-use Rattle.survey.specs.Sources.{survey-entries, entries-sound}
+use Rattle.survey.specs.Sources.{survey-entries, entries-sound, prec-exact}
 use Rattle.calls.specs.Reports.{sameReports}
 use Rattle.calls.proofs.InRange.{tile-counts, tile-some}
 
@@ -95,10 +95,11 @@ module _ (st : State) (table marks : List ℕ) where
       let d = and-true (eqb (st .reports .«max_res») (maxRes st)) _ (a .1) in
       λ i. st .layers * (eqb-true (st .reports .«max_res») (maxRes st) (d .0) i * (st .components * eqb-true (st .reports .«max_prec») (maxPrec s) (a .0) i))
 
-  found-few : leb (needed (reported s)) 65536 ≡ true → findingsTest st marks (surveyed s) ≡ rest
+  found-few : fieldsTest st ≡ true → leb (needed (reported s)) 65536 ≡ true → findingsTest st marks (surveyed s) ≡ rest
   unfolding reportsSound
-  found-few f =
-      rw f
+  found-few fields f =
+      let t = tile-some st (and-true (tileGood st) _ fields .0) in
+      rw (f, prec-exact s (t .0) (some-levels st fields) (t .1) f)
       (split (reportsSound s)
       (λ e. let n = needed-same e in rw (e, n, f))
       (λ e. rw e))
@@ -125,4 +126,4 @@ module _ (st : State) (table marks : List ℕ) where
         by true e =
             rw (← e)
             (ap (λ (t : Sheet). findingsTest st marks (surveyed t)) (survey-entries table st)
-            ∙ split (leb (needed (reported s)) 65536) found-few found-many)
+            ∙ split (leb (needed (reported s)) 65536) (found-few fields) found-many)

@@ -3,16 +3,14 @@ use survey::Findings;
 use types::state::Reports;
 use types::state::State;
 ghost use mathlib.Core.Path.{_≡_};
-ghost use Prim.Native.Nat.{_^_, _<_};
 ghost use Rattle.calls.specs.Reports.{withReports, sameReports};
 
 // A state with what was found.
 pub(crate) fn reported(st: State, found: Findings) -> State
-    requires { ⌜ found .«max_prec» < 2 ^ 32 ⌝ }
     ensures { λ r. ⌜ r ≡ withReports st found ⌝ }
 {
     let reports = Reports {
-        max_prec: found.max_prec as u32,
+        max_prec: found.max_prec,
         max_res: found.max_res,
         dx_min: found.dx_min,
         dy_min: found.dy_min,
@@ -25,7 +23,7 @@ pub(crate) fn reported(st: State, found: Findings) -> State
 pub(crate) fn agree(st: State, found: Findings) -> bool
     ensures { λ r. ⌜ r ≡ sameReports st found ⌝ }
 {
-    ((st.reports.max_prec as u64) == found.max_prec)
+    (st.reports.max_prec == found.max_prec)
         & ((st.reports.max_res == found.max_res)
             & ((st.reports.dx_min == found.dx_min) & (st.reports.dy_min == found.dy_min)))
 }

@@ -4,7 +4,7 @@ use mathlib.Core.Path.{_≡_, refl, sym, ap, _∙_}
 use mathlib.Core.Bool.{Bool, true, false, cond, not}
 use mathlib.Core.List.{List}
 use mathlib.Core.Logic.{⊎-elim}
-use Prim.Native.Nat.{ℕ, _+_, _-_, _*_, _≤_, _<_, min}
+use Prim.Native.Nat.{ℕ, _+_, _-_, _≤_, _<_, min}
 use native.Mathlib.Nat.{mul-add, mul-one, mul-zero, mul-pos, mul-le-mul-left}
 use native.Mathlib.Omega.{arith}
 use lib.Dec.{leb, eqb}
@@ -18,6 +18,7 @@ use Rattle.geometry.specs.declared.axis.Axis.{Axis}
 use Rattle.geometry.specs.declared.axis.Columns.{Columns}
 use Rattle.geometry.specs.declared.axis.Resolution.{Resolution}
 use Rattle.types.specs.Ranges.{exponentRange}
+use Rattle.survey.specs.Capped.{capped-max}
 use Rattle.survey.specs.Passing.{countOf, strideOf, startSums, noSums, withEntry, entryFrom, entryFine, entrySums, passed, resolutionSums, exponentsAt}
 use Rattle.survey.specs.declared.places.Places.{Places}
 use Rattle.survey.specs.declared.axes.Axes.{Axes}
@@ -92,7 +93,7 @@ module _ {e : List ℕ} {p : Places} {check : Bool} {a : Axes} {n at : ℕ} {s :
         let f : entryFine e (exponentsAt p r) check a (n - 1 - r) ≡ true = sym good-is ∙ g in
         record {
           there = rw (k .there) (place-next p r);
-          sums = rw (is, k .there, f, k .sums, max-more, all-next, min-more, min-more);
+          sums = rw (is, k .there, f, k .sums, capped-max, max-more, all-next, min-more, min-more);
           fine = all-more _ r (k .fine) f;
         }
 

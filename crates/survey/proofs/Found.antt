@@ -10,6 +10,7 @@ use Rattle.laws.specs.Below.{all-at}
 use Rattle.packets.specs.Tile.{Sheet, dxOf, dyOf, resOf, levelOf, maxPrec, maxRes, dxMin, dyMin, reported, needed}
 use Rattle.packets.specs.Grid.{stepX, stepY, stepsFit, stepsDivide, gridAgreed}
 use Rattle.types.specs.declared.state.State.{State}
+use Rattle.survey.specs.Capped.{capped, same-few, same-number}
 use Rattle.survey.specs.Passing.{wantedOf, multiples, hasWanted, agreedOf, neededOf, marksOf, findingsOf}
 use Rattle.survey.specs.declared.sums.Sums.{Sums}
 use Rattle.survey.specs.declared.places.Places.{Places}
@@ -18,6 +19,7 @@ use Rattle.survey.proofs.Bases.{placeIn}
 use Rattle.survey.proofs.Over.{rangedAt, goodOver, foundOver, sumsTo}
 use Rattle.survey.proofs.Steps.{least-above, divide-is, clip-is}
 use Rattle.survey.proofs.Agreed.{divide-axes, grid-wants, wants-same}
+use Rattle.survey.proofs.Products.{needed-cut}
 use Rattle.survey.proofs.Seen.{sheetBy, Seen}
 
 module _ {e : List ℕ} {p : Places} {check : Bool} {st : State} {here : Places} {all : Sums} {deep : ℕ} {xs ys : List ℕ}
@@ -69,7 +71,7 @@ module _ {e : List ℕ} {p : Places} {check : Bool} {st : State} {here : Places}
   unfolding goodOver
   good-is h = rw (le-leb _ _ h, s .ranged, s .fine)
 
-  prec-is : all .most ≡ maxPrec (sheetBy e p st)
+  prec-is : all .most ≡ capped (maxPrec (sheetBy e p st))
   unfolding maxPrec sumsTo
   prec-is = ap (λ (a : Sums). a .most) (s .sums)
 
@@ -88,15 +90,18 @@ module _ {e : List ℕ} {p : Places} {check : Bool} {st : State} {here : Places}
   pub found-is : st .components ≤ 16 → findingsOf (wantedOf st) (st .layers) (st .components) deep all xs ys ≡ foundOver e (placeIn p st) check st
   unfolding findingsOf foundOver marksOf needed reported
   found-is h =
-      rw (good-is h)
+      let prec : ℕ = maxPrec (sheetBy e p st) in
+      let marks : ℕ → ℕ = neededOf (st .layers) (maxRes st) (st .components) in
+      let cut = needed-cut (st .layers) (maxRes st) (st .components) prec in
+      rw (good-is h, prec-is, res-is)
       (λ i.
       record {
         good = true;
         grid = grid-is i;
-        few = leb (neededOf (st .layers) (res-is i) (st .components) (prec-is i)) 65536;
-        needed = cond (leb (neededOf (st .layers) (res-is i) (st .components) (prec-is i)) 65536) (neededOf (st .layers) (res-is i) (st .components) (prec-is i)) 0;
-        «max_prec» = cond (leb (neededOf (st .layers) (res-is i) (st .components) (prec-is i)) 65536) (prec-is i) 0;
-        «max_res» = res-is i;
+        few = same-few (marks (capped prec)) (marks prec) cut i;
+        needed = same-number (marks (capped prec)) (marks prec) cut i;
+        «max_prec» = cond (same-few (marks (capped prec)) (marks prec) cut i) (capped prec) 0;
+        «max_res» = maxRes st;
         «dx_min» = dx-is i;
         «dy_min» = dy-is i;
       })

@@ -16,6 +16,7 @@ use Rattle.types.specs.Ranges.{componentRange, exponentRange}
 use Rattle.packets.specs.Tile.{Sheet, dxOf, dyOf, resOf, width, height, precincts}
 use Rattle.packets.specs.Grid.{everywhere, stepX, stepY}
 use Rattle.types.specs.declared.state.State.{State}
+use Rattle.survey.specs.Capped.{capped, capped-max}
 use Rattle.survey.specs.Survey.{placeOf, surveyGood, surveyed, noSurvey, surveyOf}
 use Rattle.survey.specs.Passing.{startSums, noSums, joinedSums, entryFine, passed, resolutionSums, componentSums}
 use Rattle.survey.specs.declared.Source.{Source}
@@ -65,7 +66,7 @@ abbrev pub partSums : Sheet → ℕ → Sums
 partSums s c =
     record {
       good = true;
-      most = maxBelow (precincts s c) (resOf (s .st) c);
+      most = capped (maxBelow (precincts s c) (resOf (s .st) c));
       fit = allBelow (stepFits s c) (resOf (s .st) c);
       «x_least» = leastIn (stepX s) (s .st) c;
       «y_least» = leastIn (stepY s) (s .st) c;
@@ -75,7 +76,7 @@ unfoldable pub sumsTo : Sheet → ℕ → Sums
 sumsTo s k =
     record {
       good = true;
-      most = maxBelow (λ c. maxBelow (precincts s c) (resOf (s .st) c)) k;
+      most = capped (maxBelow (λ c. maxBelow (precincts s c) (resOf (s .st) c)) k);
       fit = allBelow (λ c. allBelow (stepFits s c) (resOf (s .st) c)) k;
       «x_least» = minBelow 4294967295 (leastIn (stepX s) (s .st)) k;
       «y_least» = minBelow 4294967295 (leastIn (stepY s) (s .st)) k;
@@ -88,7 +89,7 @@ sums-none s = rw (max-none, all-none, min-none, min-none)
 pub sums-more : (s : Sheet) (c : ℕ) → joinedSums (sumsTo s c) (partSums s c) ≡ sumsTo s (c + 1)
 unfolding sumsTo
 sums-more s c =
-    rw (max-more (λ c. maxBelow (precincts s c) (resOf (s .st) c)) c, all-next (λ c. allBelow (stepFits s c) (resOf (s .st) c)) c, min-more 4294967295 (leastIn (stepX s) (s .st)) c, min-more 4294967295 (leastIn (stepY s) (s .st)) c)
+    rw (capped-max (maxBelow (λ c. maxBelow (precincts s c) (resOf (s .st) c)) c) (maxBelow (precincts s c) (resOf (s .st) c)), max-more (λ c. maxBelow (precincts s c) (resOf (s .st) c)) c, all-next (λ c. allBelow (stepFits s c) (resOf (s .st) c)) c, min-more 4294967295 (leastIn (stepX s) (s .st)) c, min-more 4294967295 (leastIn (stepY s) (s .st)) c)
 
 -- what the pass over a component gives
 pub component-is : (e : List ℕ) (q : ℕ → ℕ → ℕ) (check : Bool) (st : State) (c : ℕ)
@@ -102,7 +103,7 @@ component-is e q check st c =
     (cond (fineAt e q st check c)
     (record {
       good = true;
-      most = m;
+      most = capped m;
       fit = allBelow (stepFits (sheetOver e q st) c) (resOf st c);
       «x_least» = leastIn (stepX (sheetOver e q st)) st c;
       «y_least» = leastIn (stepY (sheetOver e q st)) st c;

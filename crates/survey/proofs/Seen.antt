@@ -48,7 +48,6 @@ pub record Seen (e : List ℕ) (p : Places) (check : Bool) (st : State) (here : 
   pub fine : allBelow (fineAt e (placeIn p st) st check) c ≡ true
   pub sums : all ≡ sumsTo (sheetBy e p st) c
   pub deepest : deep ≡ maxBelow (resOf st) c
-  pub shallow : deep ≤ 33
   pub long-x : length xs ≡ 16
   pub long-y : length ys ≡ 16
   pub least-x : Holds (leastIn (stepX (sheetBy e p st)) st) c xs
@@ -64,7 +63,6 @@ seen-none e p check st small =
       fine = all-none (fineAt e (placeIn p st) st check);
       sums = sym (sums-none (sheetBy e p st));
       deepest = sym (max-none (resOf st));
-      shallow = omega arith;
       long-x = refl;
       long-y = refl;
       least-x = λ k h. omega arith;
@@ -101,7 +99,6 @@ module _ {e : List ℕ} {p : Places} {check : Bool} {st : State} {here : Places}
       let b : here .between ≤ 32 = rw (s .at) (small .between) in
       let near = s .near in
       let high = r .n-high in
-      let shallow = s .shallow in
       let x = s .long-x in
       let y = s .long-y in
       record {
@@ -111,7 +108,6 @@ module _ {e : List ℕ} {p : Places} {check : Bool} {st : State} {here : Places}
         fine = all-more (fineAt e (placeIn p st) st check) c (s .fine) (w .1);
         sums = rw (s .sums, is-part) (sums-more (sheetBy e p st) c);
         deepest = rw (max-more (resOf st) c, s .deepest);
-        shallow = omega arith;
         long-x = length-set xs c (one .«x_least») ∙ x;
         long-y = length-set ys c (one .«y_least») ∙ y;
         least-x = holds-more (leastIn (stepX (sheetBy e p st)) st) c xs (one .«x_least») (omega arith) (s .least-x) (ap (λ (a : Sums). a .«x_least») is-part);

@@ -1,4 +1,5 @@
 pub mod Put
+pub mod Capped
 pub mod Survey
 pub mod Passing
 pub mod Kept

@@ -17,6 +17,7 @@ use Rattle.types.specs.declared.order.Order.the-variants.{Lrcp as lrcp, Rlcp as
 use Rattle.packets.specs.Grid.{changeOf}
 use Rattle.types.specs.declared.state.State.{State}
 use Rattle.types.specs.declared.table.Entry.{Entry}
+use Rattle.survey.specs.Capped.{capped}
 use Rattle.survey.specs.declared.Source.{Source}
 use Rattle.survey.specs.declared.Source.the-variants.{Records, Entries}
 use Rattle.survey.specs.declared.Findings.{Findings}
@@ -49,7 +50,7 @@ abbrev pub withEntry : Sums → Axes → ℕ → Entry → Sums
 withEntry s a level entry =
     record {
       good = true;
-      most = max (s .most) (entry .width * entry .height);
+      most = max (s .most) (capped (entry .width * entry .height));
       fit = s .fit && (leb (strideOf (a .x) level (entry .pdx)) 4294967295 && leb (strideOf (a .y) level (entry .pdy)) 4294967295);
       «x_least» = min (s .«x_least») (strideOf (a .x) level (entry .pdx));
       «y_least» = min (s .«y_least») (strideOf (a .y) level (entry .pdy));
@@ -94,7 +95,7 @@ unfoldable pub passed : List ℕ → (ℕ → ℕ) → Axes → ℕ → ℕ → 
 passed e q a n k =
     record {
       good = true;
-      most = maxBelow (λ r. precinctsAt e (q r) a (n - 1 - r)) k;
+      most = capped (maxBelow (λ r. precinctsAt e (q r) a (n - 1 - r)) k);
       fit = allBelow (λ r. leb (strideX e (q r) a (n - 1 - r)) 4294967295 && leb (strideY e (q r) a (n - 1 - r)) 4294967295) k;
       «x_least» = minBelow 4294967295 (λ r. strideX e (q r) a (n - 1 - r)) k;
       «y_least» = minBelow 4294967295 (λ r. strideY e (q r) a (n - 1 - r)) k;

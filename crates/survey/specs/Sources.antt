@@ -28,6 +28,7 @@ use Rattle.types.specs.declared.state.State.{State}
 use Rattle.survey.specs.declared.Source.{Source}
 use Rattle.survey.specs.declared.Source.the-variants.{Records, Entries}
 use Rattle.survey.specs.Survey.{placeOf, sheetFrom, entryGood, surveyGood, surveyed, surveyOf, keptOf}
+use Rattle.survey.specs.Capped.{capped}
 use Rattle.survey.specs.Put.{put-over}
 use Rattle.survey.specs.Ranges.{in-range}
 
@@ -134,7 +135,7 @@ module _ (b : List ℕ) where
           grid = grid i;
           few = leb (marks (prec i)) 65536;
           needed = cond (leb (marks (prec i)) 65536) (marks (prec i)) 0;
-          «max_prec» = cond (leb (marks (prec i)) 65536) (prec i) 0;
+          «max_prec» = cond (leb (marks (prec i)) 65536) (capped (prec i)) 0;
           «max_res» = maxRes (fieldsOf b);
           «dx_min» = x i;
           «dy_min» = y i;
@@ -155,11 +156,12 @@ module _ (b : List ℕ) where
     pub records-kept : (old : List ℕ) → 2112 ≤ length old → keptOf b Records false (fieldsOf b) old ≡ over (tableWords (sheetIn b)) old
     records-kept old room = kept-over b Records false (fieldsOf b) old records-good room ∙ ap (λ (ws : List ℕ). over ws old) same-words
 
--- the largest precinct count is at most the marks needed, unless there are none of the other factors
-pub prec-few : (s : Sheet) → 1 ≤ s .st .layers → 1 ≤ maxRes (s .st) → 1 ≤ s .st .components → maxPrec s ≤ needed (reported s)
+-- the largest precinct count is at most the marks needed, unless there are none of the other factors: so it is exact where these are few
+pub prec-exact : (s : Sheet) → 1 ≤ s .st .layers → 1 ≤ maxRes (s .st) → 1 ≤ s .st .components → leb (needed (reported s)) 65536 ≡ true
+    → capped (maxPrec s) ≡ maxPrec s
 unfolding needed reported
-prec-few s l r c =
-    omega (arith, grows (s .st .components) (maxPrec s) c, grows (maxRes (s .st)) (s .st .components * maxPrec s) r, grows (s .st .layers) (maxRes (s .st) * (s .st .components * maxPrec s)) l)
+prec-exact s l r c few =
+    omega (arith, leb-true (s .st .layers * (maxRes (s .st) * (s .st .components * maxPrec s))) 65536 few, grows (s .st .components) (maxPrec s) c, grows (maxRes (s .st)) (s .st .components * maxPrec s) r, grows (s .st .layers) (maxRes (s .st) * (s .st .components * maxPrec s)) l)
   where
     grows : (a n : ℕ) → 1 ≤ a → n ≤ a * n
     grows a n h = rw (mul-comm a n) (le-mul-of-pos-right n h)

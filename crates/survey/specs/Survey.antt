@@ -14,6 +14,7 @@ use Rattle.types.specs.declared.state.State.{State}
 use Rattle.survey.specs.declared.Source.{Source}
 use Rattle.survey.specs.declared.Source.the-variants.{Records, Entries}
 use Rattle.survey.specs.declared.Findings.{Findings}
+use Rattle.survey.specs.Capped.{capped}
 use Rattle.survey.specs.Put.{putNumbers}
 
 -- where the exponents of resolution r of component c stand: after the kind in its record of a sheet, or in its entry of a table
@@ -44,7 +45,8 @@ surveyGood e at check st =
 abbrev pub noSurvey : Findings
 noSurvey = record { good = false; grid = false; few = false; needed = 0; «max_prec» = 0; «max_res» = 0; «dx_min» = 0; «dy_min» = 0 }
 
--- the reports, whether the grid is agreed for every progression, and the marks needed, if they are at most 65,536 (else 0, and no precinct count)
+-- the reports, whether the grid is agreed for every progression, and the marks needed, if they are at most 65,536 (else 0, and no precinct count; with 0
+-- layers any number of precincts takes 0 marks, so that their count is cut off)
 abbrev pub surveyed : Sheet → Findings
 surveyed s =
     record {
@@ -52,7 +54,7 @@ surveyed s =
       grid = gridAgreed s;
       few = leb (needed (reported s)) 65536;
       needed = cond (leb (needed (reported s)) 65536) (needed (reported s)) 0;
-      «max_prec» = cond (leb (needed (reported s)) 65536) (maxPrec s) 0;
+      «max_prec» = cond (leb (needed (reported s)) 65536) (capped (maxPrec s)) 0;
       «max_res» = maxRes (s .st);
       «dx_min» = dxMin s;
       «dy_min» = dyMin s;

@@ -1,6 +1,7 @@
 // One survey of every resolution of every component, for setup and for soundness alike: the numbers that setup reports, whether the grid is agreed, the
 // marks needed, and the words of the table. The precinct exponents are read where they stand: in a sheet's records or in a table's entries.
 mod axes;
+mod capped;
 mod component;
 mod grid;
 mod kept;
@@ -36,7 +37,8 @@ pub struct Findings {
     // at most 65,536 marks are needed; else `needed` and `max_prec` are 0
     pub few: bool,
     pub needed: u32,
-    pub max_prec: u64,
+    // 65,537 where it is more
+    pub max_prec: u32,
     pub max_res: u32,
     pub dx_min: u32,
     pub dy_min: u32,
@@ -69,7 +71,7 @@ impl Findings {
         xs: &[u32; State::COMPONENT_PLACES],
         ys: &[u32; State::COMPONENT_PLACES],
     ) -> Self
-        requires { ⌜ (components ≤ 16) × (res ≤ 33) × (0 < all .«x_least») × (0 < all .«y_least») ⌝ }
+        requires { ⌜ (components ≤ 16) × (0 < all .«x_least») × (0 < all .«y_least») ⌝ }
         ensures { λ r. ⌜ r ≡ findingsOf wanted layers components res all (now (xs .entry)) (now (ys .entry)) ⌝ }
     {
         let marks = Marks::of(layers, res, components, all.most);

@@ -1,27 +1,23 @@
-// The marks needed (01, 'Strides'), as an exact number.
-use crate::sums;
+// The marks needed (01, 'Strides'), as an exact number where they are few.
+use crate::capped;
 use types::state::State;
 ghost use mathlib.Core.Path.{_≡_};
-ghost use Prim.Native.Nat.{_≤_};
 ghost use Rattle.survey.specs.Passing.{marksOf};
 
 pub(crate) struct Marks {
     // at most 65,536; else the numbers are 0
     pub few: bool,
     pub needed: u32,
-    pub max_prec: u64,
+    pub max_prec: u32,
 }
 
 impl Marks {
-    // layers · res · components · prec, if few. A last factor above 65,537 counts as 65,537, which is as much too many: so nothing wraps.
-    pub(crate) fn of(layers: u32, res: u32, components: u32, prec: u64) -> Self
-        requires { ⌜ (res ≤ 33) × (components ≤ 16) ⌝ }
+    // layers · res · components · prec, if few.
+    pub(crate) fn of(layers: u32, res: u32, components: u32, prec: u32) -> Self
         ensures { λ r. ⌜ r ≡ marksOf layers res components prec ⌝ }
     {
-        let each = (layers as u64) * ((res as u64) * (components as u64));
-        let capped = sums::smaller(State::MAX_MARKS + 1, prec);
-        let needed = each * (capped as u64);
-        if (State::MAX_MARKS as u64) < needed {
+        let needed = capped::times(layers, capped::times(res, capped::times(components, prec)));
+        if State::MAX_MARKS < needed {
             Marks {
                 few: false,
                 needed: 0,
@@ -30,7 +26,7 @@ impl Marks {
         } else {
             Marks {
                 few: true,
-                needed: needed as u32,
+                needed,
                 max_prec: prec,
             }
         }

@@ -1,29 +1,25 @@
 // What is gathered over resolutions: the largest precinct count, whether every step fits 32 bits, and the smallest step on each axis.
 use crate::axes::Axes;
+use crate::capped;
 use geometry::axis;
 use geometry::math;
 use types::table::Entry;
 ghost use mathlib.Core.Path.{_≡_};
 ghost use mathlib.Core.Bool.{cond};
-ghost use Prim.Native.Nat.{_≤_, min, max};
+ghost use Prim.Native.Nat.{_≤_, min};
 ghost use lib.Dec.{eqb};
 ghost use Rattle.survey.specs.Passing.{noSums, startSums, withEntry, joinedSums};
 
 pub(crate) struct Sums {
     // everything passed was good; else no step fits, and all numbers are 0
     pub good: bool,
-    pub most: u64,
+    // 65,537 where it is more
+    pub most: u32,
     // every step of both axes
     pub fit: bool,
     // 0xffff_ffff where there is none, or where each is larger
     pub x_least: u32,
     pub y_least: u32,
-}
-
-pub(crate) fn larger(a: u64, b: u64) -> u64
-    ensures { λ r. ⌜ r ≡ max a b ⌝ }
-{
-    if a < b { b } else { a }
 }
 
 // The smaller of a number and a step; one that does not fit is 0, and larger than every number.
@@ -35,12 +31,6 @@ fn least(held: u32, step: u32) -> u32
     } else {
         math::uint_min(held, step)
     }
-}
-
-pub(crate) fn smaller(a: u32, b: u64) -> u32
-    ensures { λ r. ⌜ r ≡ min a b ⌝ }
-{
-    if b < (a as u64) { b as u32 } else { a }
 }
 
 impl Sums {
@@ -79,7 +69,7 @@ impl Sums {
         let step_y = axis::step(axes.y.d, level, entry.pdy);
         Sums {
             good: true,
-            most: larger(self.most, (entry.width as u64) * (entry.height as u64)),
+            most: math::uint_max(self.most, capped::times(entry.width, entry.height)),
             fit: self.fit & ((step_x != 0) & (step_y != 0)),
             x_least: least(self.x_least, step_x),
             y_least: least(self.y_least, step_y),
@@ -92,7 +82,7 @@ impl Sums {
     {
         Sums {
             good: true,
-            most: larger(self.most, b.most),
+            most: math::uint_max(self.most, b.most),
             fit: self.fit & b.fit,
             x_least: math::uint_min(self.x_least, b.x_least),
             y_least: math::uint_min(self.y_least, b.y_least),

@@ -176,7 +176,7 @@ wanted-requires : tie.Need-wanted-requires Inv-loop μ-loop
 wanted-requires c κs = search needs
 
 of-requires-2 : tie.Need-of-requires-2 Inv-loop μ-loop
-of-requires-2 c κs = let s = seen (c .before .before .before) in (omega arith, s .shallow, above-x s, above-y s)
+of-requires-2 c κs = let s = seen (c .before .before .before) in (omega arith, above-x s, above-y s)
 
 same-length-2 : tie.Need-same-length-2 Inv-loop μ-loop
 same-length-2 c = omega (arith, kept-long (c .before .before .before .before .before .loop .inv .2))

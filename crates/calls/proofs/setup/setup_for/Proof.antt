@@ -1,8 +1,7 @@
 -- `setup`: the refusals in their order, each with everything as it was; and else the table written and the marks cleared. Assumes nothing.
-use Rattle.calls.proofs.SetUps.{Seen, read-fine, read-bad, read-fields, refused-reading, fields-good, refused-grid, refused-many, refused-marks, refused-table, refused-room, prec-fits, accepted-left}
+use Rattle.calls.proofs.SetUps.{Seen, read-fine, read-bad, read-fields, refused-reading, fields-good, refused-grid, refused-many, refused-marks, refused-table, refused-room, accepted-left}
 use Rattle.calls.proofs.SoundBy.{entries-are}
 use Rattle.calls.proofs.Kept.{kept-length, kept-table}
-use Rattle.survey.specs.declared.Source.the-variants.{Records}
 use lib.ListN.{length}
 use Rattle.laws.specs.Cases.{not-true, not-false}
 use Rattle.laws.specs.Below.{sumBelow}
@@ -13,7 +12,6 @@ use mathlib.Core.List.{List}
 use Prim.Native.Nat.{ℕ, _≤_}
 use denote.Ref.{now}
 use mathlib.Core.Path.{_≡_, sym, ap, _∙_}
-use mathlib.Core.Bool.{false}
 use borrow.Author.Needs.{needs}
 use Rattle.calls.proofs.setup.setup_for.Statement.{statement}
 use Rattle.calls.proofs.setup.setup_for.Tie as tie
@@ -108,7 +106,7 @@ clear-requires : tie.Need-clear-requires
 clear-requires c κs = search needs
 
 reported-requires : tie.Need-reported-requires
-reported-requires c κs = let z = c .before .before .before .before .before .before .before .before .before .before .before .before .before .before .before .before .before .before .before .before .before .before .before .before .before .before .before .before .before .before in prec-fits (seen (c .before .before .before .before .before .before .before .before .before .before .before .before .before .before .before .before .before .before .before .before .before)) (now (z .args .table)) (now (z .args .marks)) (z .args .output) (c .before .before .before .before .before .before .before .before .before .before .before .before .before .before .before .before .before .before .before .if2 .taken) (c .before .before .before .before .before .before .before .before .before .before .before .before .before .before .before .before .before .before .if3 .taken)
+reported-requires c κs = search needs
 
 same-length : tie.Need-same-length
 same-length c = search needs
