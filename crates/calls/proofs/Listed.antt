@@ -18,14 +18,13 @@ use Rattle.packets.specs.Positions.{met, numberAt, hasPositions, positionsIn}
 use Rattle.types.specs.Entries.{entryAt}
 use Rattle.packets.specs.Table.{sheetAt}
 use Rattle.packets.specs.Sound.{isIn}
-use Rattle.packets.specs.Meaning.{sound-means, sound-good}
 use Rattle.packets.specs.Good.{Good}
 use Rattle.packets.specs.Met.{MetAt}
 use Rattle.packets.specs.Inside.{has-good, is-in, in-is, positions-none, in-positions, in-range, in-met, in-still, listed-point, listed-still, InRange, inside}
 use Rattle.types.specs.declared.state.State.{State}
 use Rattle.types.specs.declared.cursor.Position.{Position}
-use Rattle.calls.specs.Points.{inRange, countedOf, metOf, metBy, positionTest, Fit, Reached}
-use Rattle.calls.proofs.Resolution.{count-is, wide-is, along-x, along-y}
+use Rattle.calls.specs.Points.{inRange, countedOf, metOf, metBy, positionTest, Reached}
+use Rattle.calls.proofs.Resolution.{fit-good, count-is, wide-is, along-x, along-y}
 
 axis-means : (t0 t1 x : ℕ) (t : Bool) → Means (leb t0 x && (ltb x t1 && t)) ((t0 ≤ x) × ((x < t1) × (t ≡ true)))
 axis-means t0 t1 x t = and-means (leb-means t0 x) (and-means (ltb-means x t1) (itself t))
@@ -96,10 +95,6 @@ module _ (s : Sheet) (g : Range) (p : Position) where
     point-means : (o : Order) → byPoints o ≡ true → hasPositions s g o ≡ true → InRange g p
         → Means (metOf (lineX s (p .compno) (p .resno)) (lineY s (p .compno) (p .resno)) (width s (p .compno) (p .resno)) (precincts s (p .compno) (p .resno)) p) (In p (positionsIn s g o))
     point-means o b h i = means-by met-means (listed-point s g o b h p i) (in-met s g o b p)
-
--- a sound state has what these laws ask
-pub fit-good : (st : State) (table : List ℕ) → Fit st table → Good (sheetAt st table)
-fit-good st table f = sound-good st table (f .marks) (sound-means st table (f .marks) .1 (f .sound))
 
 -- the test by the order, of a resolution that there is
 pub in-test : (st : State) (table : List ℕ) (g : Range) (p : Position) → Reached st table p → (o : Order) → componentsGood st g ≡ true → inRange g p ≡ true

@@ -1,9 +1,11 @@
 -- What a place of a cursor is tested by, in the words of the geometry and of the table's entry.
-use Prim.Native.Nat.{ℕ, _+_, _*_, _<_}
+use Prim.Native.Nat.{ℕ, _+_, _*_, _≤_, _<_}
+use mathlib.Core.Path.{_≡_}
 use mathlib.Core.Bool.{Bool, false, _&&_}
 use mathlib.Core.List.{List}
 use lib.Dec.{ltb, leb, eqb}
-use Rattle.geometry.specs.Line.{Line, columnOf, meetsAt}
+use Rattle.geometry.specs.Line.{Line, count, columnOf, meetsAt}
+use Rattle.geometry.specs.Hits.{Ordered}
 use Rattle.packets.specs.Tile.{dxOf, dyOf, resOf, levelOf, entriesBefore}
 use Rattle.types.specs.Entries.{entryAt}
 use Rattle.packets.specs.Meaning.{Sound}
@@ -48,6 +50,14 @@ entryTest st e NoPositions p = false
 
 abbrev pub positionTest : State → List ℕ → Order → Position → Bool
 positionTest st table o p = entryTest st (entryAt table (entriesBefore st (p .compno) + p .resno)) o p
+
+-- an entry that counts the precincts along the two axes of a tile, and they are few
+pub record Counts (x y : Line) (e : Entry) : Type 0 where
+  pub wide : e .width ≡ count x
+  pub high : e .height ≡ count y
+  pub upward-x : Ordered x
+  pub upward-y : Ordered y
+  pub few : e .width * e .height ≤ 65536
 
 -- a state and a table that are sound, whatever the marks
 pub record Fit (st : State) (table : List ℕ) : Type 0 where

@@ -9,13 +9,13 @@ use types::state::State;
 use types::table::Entry;
 use types::table::entries;
 ghost use mathlib.Core.Path.{_≡_};
-ghost use Prim.Native.Nat.{_*_, _<_};
+ghost use Prim.Native.Nat.{_*_, _≤_, _<_};
 ghost use Rattle.geometry.specs.Axis.{lineOf};
 ghost use Rattle.packets.specs.Positions.{positionsOf};
 ghost use Rattle.packets.specs.Table.{sheetAt};
 ghost use Rattle.packets.specs.Tile.{resOf};
 ghost use Rattle.packets.specs.Sound.{isIn, placeSound, positionsFor};
-ghost use Rattle.calls.specs.Points.{inRange, countedOf, metOf, metBy, positionTest, Fit, Reached};
+ghost use Rattle.calls.specs.Points.{inRange, countedOf, metOf, alongX, alongY, metBy, positionTest, Fit, Reached, Counts};
 
 // A position is in a progression's ranges.
 fn in_range(g: Range, p: Position) -> bool
@@ -28,25 +28,25 @@ fn in_range(g: Range, p: Position) -> bool
 
 // Orders LRCP and RLCP: one of the resolution's precincts, with no point.
 fn counted(e: Entry, p: Position) -> bool
+    requires { ⌜ e .width * e .height ≤ 65536 ⌝ }
     ensures { λ r. ⌜ r ≡ countedOf (e .width * e .height) p ⌝ }
 {
-    let count = (e.width as u64) * (e.height as u64);
-    ((p.precno as u64) < count) & ((p.x == 0) & (p.y == 0))
+    (p.precno < e.width * e.height) & ((p.x == 0) & (p.y == 0))
 }
 
 // The precinct that is met at the point, if there are any.
 fn met(x: Line, y: Line, e: Entry, p: Position) -> bool
+    requires { ⌜ Counts (lineOf x) (lineOf y) e ⌝ }
     ensures { λ r. ⌜ r ≡ metOf (lineOf x) (lineOf y) (e .width) (e .width * e .height) p ⌝ }
 {
-    let count = (e.width as u64) * (e.height as u64);
-    if count == 0 {
+    if e.width * e.height == 0 {
         return false;
     }
     if y.meets(p.y) {
         if x.meets(p.x) {
-            let column = x.column(p.x) as u64;
-            let row = y.column(p.y) as u64;
-            return (p.precno as u64) == column + row * (e.width as u64);
+            let column = x.column(p.x);
+            let row = y.column(p.y);
+            return p.precno == column + row * e.width;
         }
     }
     false
@@ -54,7 +54,7 @@ fn met(x: Line, y: Line, e: Entry, p: Position) -> bool
 
 // The other orders: it is that of the resolution with this entry.
 fn at_point(st: State, e: Entry, p: Position) -> bool
-    requires { ⌜ (p .compno < 16) × (p .resno < resOf st (p .compno)) ⌝ }
+    requires { ⌜ (p .compno < 16) × (p .resno < resOf st (p .compno)) × Counts (alongX st e p) (alongY st e p) e ⌝ }
     ensures { λ r. ⌜ r ≡ metBy st e p ⌝ }
 {
     let c = p.compno as usize;

@@ -1,21 +1,15 @@
 -- A sound state can be prepared, and what is prepared from it serves the walks by points where its steps fit. Assumes nothing.
-use Prim.Native.Nat.{ℕ, _+_, _-_, _*_, _≤_, _<_}
-use mathlib.Core.Path.{_≡_, refl, ap}
+use Prim.Native.Nat.{ℕ, _≤_, _<_}
+use mathlib.Core.Path.{_≡_, refl}
 use mathlib.Core.List.{List}
-use mathlib.Core.Logic.{⊎-elim}
 use native.Mathlib.Omega.{arith}
 use lib.ListN.{getD}
-use Rattle.laws.specs.Cases.{le-or-lt}
-use Rattle.packets.specs.Tile.{resOf, precincts, indexOf}
 use Rattle.packets.specs.Table.{sheetAt}
 use Rattle.packets.specs.Good.{Good}
 use Rattle.packets.specs.Met.{precincts-of, precincts-in}
-use Rattle.packets.specs.Inside.{Inside}
-use Rattle.packets.specs.Once.{index-below}
 use Rattle.packets.specs.Meaning.{StepsFit, Sound, sound-means, sound-good}
-use Rattle.packets.specs.Entered.{few-before, entry-is}
+use Rattle.packets.specs.Entered.{few-before, entry-is, few-precincts}
 use Rattle.types.specs.declared.state.State.{State}
-use Rattle.types.specs.declared.cursor.Position.{Position}
 use Rattle.walks.specs.Prepared.{InPlay}
 use Rattle.walks.specs.Prepare.{Filled, Components, AllDone}
 use Rattle.walks.specs.Filling.{all-filled}
@@ -29,18 +23,6 @@ pub record AllFilled (st : State) (table prep : List ℕ) : Type 0 where
 module _ (st : State) (table marks : List ℕ) (w : Sound st table marks) where
   good : Good (sheetAt st table)
   good = sound-good st table marks (sound-means st table marks .1 w)
-
-  -- the last precinct of a resolution has a mark, so there are no more than marks
-  few-of : (c r : ℕ) → c < st .components → r < resOf st c → 0 < precincts (sheetAt st table) c r → precincts (sheetAt st table) c r ≤ 65536
-  unfolding indexOf
-  few-of c r h k n =
-      let p : Position = record { layno = 0; resno = r; compno = c; precno = precincts (sheetAt st table) c r - 1; x = 0; y = 0 } in
-      let i : Inside (sheetAt st table) p = record { component = h; resolution = k; precinct = omega arith } in
-      omega (arith, index-below (sheetAt st table) good p i (omega (arith, w .tile .layers .0)), w .few)
-
-  pub few-precincts : (c r : ℕ) → c < st .components → precincts (sheetAt st table) c r ≤ 65536
-  few-precincts c r h =
-      ⊎-elim (λ z. omega arith) (λ z. few-of c r h (precincts-in (sheetAt st table) c r z) z) (le-or-lt (precincts (sheetAt st table) c r) 0)
 
   -- IT CAN BE PREPARED
   pub sound-components : Components st table
@@ -57,7 +39,7 @@ module _ (st : State) (table marks : List ℕ) (w : Sound st table marks) where
               components = omega (arith, w .tile .components .1);
               near = omega (arith, few-before st table marks w c h, w .tile .components .1);
               entry = λ r q. entry-is st table marks w c r h q;
-              few = λ r q. rw (precincts-of (sheetAt st table) c r q) at (few-precincts c r h);
+              few = λ r q. rw (precincts-of (sheetAt st table) c r q) at (few-precincts st table marks w c r h);
             };
       }
 
@@ -77,7 +59,7 @@ module _ (st : State) (table marks : List ℕ) (w : Sound st table marks) where
         components = omega (arith, w .tile .components .1);
         known = b;
         entry = λ r c h k i j. p .filled c r (omega arith) (λ z. fits c (omega arith) r (precincts-in (sheetAt st table) c r z));
-        few = λ r c h k i j. few-precincts c r (omega arith);
+        few = λ r c h k i j. few-precincts st table marks w c r (omega arith);
         ends-x = p .ends-x;
         ends-y = p .ends-y;
       }

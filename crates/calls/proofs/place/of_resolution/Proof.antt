@@ -1,15 +1,21 @@
 -- `of_resolution`: the entry is the resolution's, and the order says which test is made. Assumes nothing.
 use borrow.Author.Needs.{needs}
-use mathlib.Core.Path.{_≡_, sym, ap, _∙_}
-use Prim.Native.Nat.{ℕ, _+_, min}
+use mathlib.Core.Path.{_≡_, sym, ap, subst, _∙_}
+use Prim.Native.Nat.{ℕ, _+_, _<_, min}
 use native.Mathlib.Omega.{arith}
 use denote.Ref.{now}
 use Rattle.packets.specs.Tile.{resOf, entriesBefore}
 use Rattle.types.specs.Entries.{entryAt}
 use Rattle.laws.specs.Below.{sumBelow}
-use Rattle.calls.proofs.Resolution.{few-before, small}
+use Rattle.types.specs.declared.table.Entry.{Entry}
+use Rattle.calls.specs.Points.{alongX, alongY, Counts}
+use Rattle.calls.proofs.Resolution.{few-before, small, few, counts}
 use Rattle.calls.proofs.place.of_resolution.Statement.{statement}
 use Rattle.calls.proofs.place.of_resolution.Tie as tie
+
+-- from the entry back to the start
+abbrev start : tie.After-at → tie.Start
+start c = c .before .before .before .before .before .before .before
 
 -- so many entries stand before the component's
 entries-are : (c : tie.After-entries) → c .entries .result ≡ entriesBefore (c .before .before .before .before .before .args .st) (c .before .before .before .before .before .args .p .compno)
@@ -22,6 +28,13 @@ entries-are c =
 
 entry-is : (c : tie.After-at) → c .at .result ≡ entryAt (now (c .before .before .before .before .before .before .before .args .table)) (entriesBefore (c .before .before .before .before .before .before .before .args .st) (c .before .before .before .before .before .before .before .args .p .compno) + c .before .before .before .before .before .before .before .args .p .resno)
 entry-is c = c .at .ensures ∙ ap (λ (k : ℕ). entryAt (now (c .before .before .before .before .before .before .before .args .table)) (k + c .before .before .before .before .before .before .before .args .p .resno)) (entries-are (c .before .before))
+
+-- the position has its component and resolution, and the entry counts their precincts
+pointed : (c : tie.After-at)
+    → (start c .args .p .compno < 16) × (start c .args .p .resno < resOf (start c .args .st) (start c .args .p .compno)) × Counts (alongX (start c .args .st) (c .at .result) (start c .args .p)) (alongY (start c .args .st) (c .at .result) (start c .args .p)) (c .at .result)
+pointed c =
+    let z = start c in
+    (few-before (z .args .st) (now (z .args .table)) (z .args .p) (z .pre), z .pre .resolution, subst (λ (e : Entry). Counts (alongX (z .args .st) e (z .args .p)) (alongY (z .args .st) e (z .args .p)) e) (sym (entry-is c)) (counts (z .args .st) (now (z .args .table)) (z .args .p) (z .pre)))
 
 cast-entries : tie.Need-cast-entries
 cast-entries c = search needs
@@ -42,31 +55,31 @@ enum-told : tie.Need-enum-told
 enum-told c = search needs
 
 counted-requires : tie.Need-counted-requires
-counted-requires c κs = search needs
+counted-requires c κs = let z = start (c .before .before) in rw (entry-is (c .before .before)) (few (z .args .st) (now (z .args .table)) (z .args .p) (z .pre))
 
 enum-told-2 : tie.Need-enum-told-2
 enum-told-2 c = search needs
 
 counted-requires-2 : tie.Need-counted-requires-2
-counted-requires-2 c κs = search needs
+counted-requires-2 c κs = let z = start (c .before .before) in rw (entry-is (c .before .before)) (few (z .args .st) (now (z .args .table)) (z .args .p) (z .pre))
 
 enum-told-3 : tie.Need-enum-told-3
 enum-told-3 c = search needs
 
 at-point-requires : tie.Need-at-point-requires
-at-point-requires c κs = search needs
+at-point-requires c κs = pointed (c .before .before)
 
 enum-told-4 : tie.Need-enum-told-4
 enum-told-4 c = search needs
 
 at-point-requires-2 : tie.Need-at-point-requires-2
-at-point-requires-2 c κs = search needs
+at-point-requires-2 c κs = pointed (c .before .before)
 
 enum-told-5 : tie.Need-enum-told-5
 enum-told-5 c = search needs
 
 at-point-requires-3 : tie.Need-at-point-requires-3
-at-point-requires-3 c κs = search needs
+at-point-requires-3 c κs = pointed (c .before .before)
 
 enum-told-6 : tie.Need-enum-told-6
 enum-told-6 c = search needs
