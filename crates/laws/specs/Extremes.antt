@@ -1,13 +1,11 @@
--- Largest and smallest numbers as tests, from other starts, and among the multiples by powers of two. Assumes nothing.
+-- Tests that are one; largest and smallest numbers from other starts, and among the multiples by powers of two. Assumes nothing.
 use mathlib.Core.Path.{_≡_, refl, sym, ap, _∙_}
 use mathlib.Core.Bool.{Bool, true, false, _&&_, false≢true}
 use mathlib.Core.Logic.{⊎-elim}
-use Prim.Native.Nat.{ℕ, zero, suc, _+_, _-_, _*_, _%_, _^_, _≤_, _<_, min, max}
+use Prim.Native.Nat.{ℕ, zero, suc, _+_, _-_, _*_, _%_, _^_, _≤_, _<_, min}
 use native.Mathlib.Nat.{mul-assoc, mul-comm, mul-mod-left, mul-lt-mul-of-pos-left}
 use native.Mathlib.Omega.{arith}
-use lib.Dec.{leb}
 use lib.Pow.{pow-lt, pow-add}
-use borrow.Author.Tests.{le-leb, lt-leb}
 use Rattle.laws.specs.Cases.{le-or-lt, and-false}
 use Rattle.laws.specs.Below.{allBelow, maxBelow, max-more, minBelow, min-at}
 use Rattle.laws.specs.Least.{min-from}
@@ -17,24 +15,6 @@ pub same-tests : (a b : Bool) → (a ≡ true → b ≡ true) → (b ≡ true �
 same-tests true b f g = sym (f refl)
 same-tests false true f g = absurd (false≢true (g refl))
 same-tests false false f g = refl
-
--- the larger is at most m if both are
-pub leb-max : (a b m : ℕ) → leb (max a b) m ≡ (leb a m && leb b m)
-leb-max a b m =
-    ⊎-elim
-    (λ (p : a ≤ m).
-    ⊎-elim
-    (λ (q : b ≤ m). let h : max a b ≤ m = omega arith in rw (le-leb _ _ p, le-leb _ _ q, le-leb _ _ h))
-    (λ (q : m < b). let h : m < max a b = omega arith in rw (le-leb _ _ p, lt-leb _ _ q, lt-leb _ _ h))
-    (le-or-lt b m))
-    (λ (p : m < a). let h : m < max a b = omega arith in rw (lt-leb _ _ p, lt-leb _ _ h))
-    (le-or-lt a m)
-
--- all are at most m if the largest is
-pub all-leb : (f : ℕ → ℕ) (m n : ℕ) → allBelow (λ i. leb (f i) m) n ≡ leb (maxBelow f n) m
-unfolding allBelow maxBelow
-all-leb f m zero = sym (le-leb 0 m (omega arith))
-all-leb f m (suc n) = rw (leb-max (maxBelow f n) (f n) m, all-leb f m n)
 
 -- two tests of all, one after the other
 swapped : (a b c d : Bool) → ((a && b) && (c && d)) ≡ ((a && c) && (b && d))
