@@ -33,6 +33,8 @@ use Rattle.geometry.proofs.math.uint_floordivpow2.Kinds as uint-floordi
 use Rattle.geometry.proofs.math.uint_floordivpow2.Reads as uint-floordivpow2
 use Rattle.geometry.proofs.math.uint_ceildivpow2.Kinds as uint-ceildivpow2-kinds
 use Rattle.geometry.proofs.math.uint_ceildivpow2.Reads as uint-ceildivpow2
+use Rattle.geometry.proofs.power.least.Kinds as least-kinds
+use Rattle.geometry.proofs.power.least.Reads as least
 use Rattle.geometry.proofs.power.uneven.Kinds as uneven-kinds
 use Rattle.geometry.proofs.power.uneven.Reads as uneven
 use Rattle.geometry.proofs.tile.tile_bounds.Kinds as tile-bounds-kinds
@@ -91,6 +93,9 @@ uint-floordivpow2-determined κs a r s e f = determined-by ofWord word-apart _ r
 
 pub uint-ceildivpow2-determined : OneAnswer uint-ceildivpow2-kinds.ps uint-ceildivpow2-kinds.r uint-ceildivpow2.Post
 uint-ceildivpow2-determined κs a r s e f = determined-by ofWord word-apart _ r s
+
+pub least-determined : OneAnswer least-kinds.ps least-kinds.r least.Post
+least-determined κs a r s e f = determined _ r s
 
 pub uneven-determined : OneAnswer uneven-kinds.ps uneven-kinds.r uneven.Post
 uneven-determined κs a r s e f = determined _ r s

@@ -5,5 +5,6 @@ pub mod Tile
 pub mod Precinct
 pub mod Line
 pub mod Axis
+pub mod Fitted
 pub mod Hits
 pub mod Raster

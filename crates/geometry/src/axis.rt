@@ -6,7 +6,8 @@ ghost use mathlib.Core.Path.{_≡_};
 ghost use Prim.Native.Nat.{_+_, _*_, _%_, _^_};
 ghost use lib.Dec.{eqb};
 ghost use Rattle.geometry.specs.Line.{boundOf, columnOf, meetsAt};
-ghost use Rattle.geometry.specs.Axis.{axisOf, resolutionOf, columnsOf, lineOf, fitted};
+ghost use Rattle.geometry.specs.Fitted.{fitted};
+ghost use Rattle.geometry.specs.Axis.{axisOf, resolutionOf, columnsOf, lineOf, boundsOf};
 
 // A component: its bounds, and its step, XRsiz or YRsiz.
 pub struct Axis {
@@ -75,11 +76,8 @@ pub fn step(d: u32, level: u32, pd: u32) -> u32
     ensures { λ r. ⌜ r ≡ fitted (d * 2 ^ (pd + level)) ⌝ }
 {
     if pd < 32 {
-        if level < 32 - pd {
-            let by = pd + level;
-            if d <= 0xffff_ffff >> by {
-                return d << by;
-            }
+        if level < 32 {
+            return power::raised(d, pd + level);
         }
     }
     0
@@ -96,6 +94,12 @@ fn multiple(x: u32, step: u32) -> bool
 }
 
 impl Line {
+    fn resolution(self) -> Resolution
+        ensures { λ r. ⌜ r ≡ boundsOf (lineOf self) ⌝ }
+    {
+        Axis::of(self.t0, self.t1, self.d).at(self.level)
+    }
+
     // The first sample at or after point x.
     fn sample(self, x: u32) -> u32
         ensures { λ r. ⌜ r ≡ boundOf x (self .d) (self .level) ⌝ }
@@ -126,8 +130,12 @@ impl Line {
     pub fn column(self, x: u32) -> u32
         ensures { λ r. ⌜ r ≡ columnOf (lineOf self) x ⌝ }
     {
-        let first = power::floored(self.sample(self.t0), self.pd);
+        let columns = self.resolution().columns(self.pd);
         let at = power::floored(self.sample(x), self.pd);
-        if at < first { 0 } else { at - first }
+        if at < columns.first {
+            0
+        } else {
+            at - columns.first
+        }
     }
 }

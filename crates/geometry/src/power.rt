@@ -1,7 +1,9 @@
-// Division by a power of two, in 32 bits, for every exponent.
+// Division by a power of two, and the product with one, in 32 bits, for every exponent.
+use crate::math;
 ghost use mathlib.Core.Path.{_≡_};
 ghost use mathlib.Core.Bool.{not};
-ghost use Prim.Native.Nat.{_/_, _%_, _^_};
+ghost use Prim.Native.Nat.{_*_, _/_, _%_, _^_};
+ghost use Rattle.geometry.specs.Fitted.{fitted, leastOf};
 ghost use lib.Dec.{eqb};
 
 // a / 2^by rounded down.
@@ -9,6 +11,25 @@ pub(crate) fn floored(a: u32, by: u32) -> u32
     ensures { λ r. ⌜ r ≡ a / 2 ^ by ⌝ }
 {
     if by < 32 { a >> by } else { 0 }
+}
+
+// a · 2^by; 0 where that does not fit 32 bits.
+pub(crate) fn raised(a: u32, by: u32) -> u32
+    ensures { λ r. ⌜ r ≡ fitted (a * 2 ^ by) ⌝ }
+{
+    if by < 32 {
+        if a <= 0xffff_ffff >> by {
+            return a << by;
+        }
+    }
+    0
+}
+
+// The smaller of a number and one that is 0 where it does not fit: then it is larger than every number.
+pub fn least(a: u32, n: u32) -> u32
+    ensures { λ r. ⌜ r ≡ leastOf a n ⌝ }
+{
+    if n == 0 { a } else { math::uint_min(a, n) }
 }
 
 // The division leaves something: a is no multiple of 2^by.

@@ -13,7 +13,7 @@ use borrow.Author.Tests.{le-leb, lt-leb, ne-eqb}
 use Rattle.laws.specs.Cases.{le-or-lt, cond-told}
 use Rattle.laws.specs.Below.{allBelow, all-none, all-next, all-more, all-fails, max-none, max-more, min-none, min-more}
 use Rattle.words.specs.Words.{wordAt}
-use Rattle.geometry.specs.Axis.{resolutionOf, columnsOf, fitted, fitted-small, fitted-large}
+use Rattle.geometry.specs.Axis.{resolutionOf, columnsOf}
 use Rattle.geometry.specs.declared.axis.Axis.{Axis}
 use Rattle.geometry.specs.declared.axis.Columns.{Columns}
 use Rattle.geometry.specs.declared.axis.Resolution.{Resolution}
@@ -28,26 +28,9 @@ use Rattle.survey.specs.declared.sums.Sums.{Sums}
 pub count-by : (a : Axis) (level pd : ℕ) {r : Resolution} {k : Columns} → r ≡ resolutionOf a level → k ≡ columnsOf r pd → k .count ≡ countOf a level pd
 count-by a level pd h e = ap (λ (k : Columns). k .count) (e ∙ ap (λ (r : Resolution). columnsOf r pd) h)
 
--- and its step, which is above 0: what is 0 does not fit, and leaves the smallest
+-- and its step, which is above 0
 pub stride-above : (a : Axis) (level pd : ℕ) → 1 ≤ a .d → 1 ≤ strideOf a level pd
 stride-above a level pd h = mul-pos h (pow-pos (pd + level))
-
-module _ (n : ℕ) (some : 1 ≤ n) where
-  small : n ≤ 4294967295 → eqb (fitted n) 0 ≡ false
-  small h = rw (fitted-small n h) (ne-eqb n 0 (λ z. omega arith))
-
-  large : 4294967295 < n → eqb (fitted n) 0 ≡ true
-  large h = rw (fitted-large n h)
-
-  pub fitted-told : not (eqb (fitted n) 0) ≡ leb n 4294967295
-  fitted-told = ⊎-elim (λ h. rw (small h, le-leb _ _ h)) (λ h. rw (large h, lt-leb _ _ h)) (le-or-lt n 4294967295)
-
-  pub fitted-least : (m : ℕ) → m ≤ 4294967295 → cond (eqb (fitted n) 0) m (min m (fitted n)) ≡ min m n
-  fitted-least m k =
-      ⊎-elim
-      (λ h. rw (small h, fitted-small n h))
-      (λ (h : 4294967295 < n). rw (large h) (let e : m ≡ min m n = omega arith in e))
-      (le-or-lt n 4294967295)
 
 -- a resolution's sums, by what is tested of it
 module _ (e : List ℕ) (p : ℕ) (check : Bool) (a : Axes) (level : ℕ) where

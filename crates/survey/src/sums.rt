@@ -3,11 +3,10 @@ use crate::axes::Axes;
 use crate::capped;
 use geometry::axis;
 use geometry::math;
+use geometry::power;
 use types::table::Entry;
 ghost use mathlib.Core.Path.{_≡_};
-ghost use mathlib.Core.Bool.{cond};
-ghost use Prim.Native.Nat.{_≤_, min};
-ghost use lib.Dec.{eqb};
+ghost use Prim.Native.Nat.{_≤_};
 ghost use Rattle.survey.specs.Passing.{noSums, startSums, withEntry, joinedSums};
 
 pub(crate) struct Sums {
@@ -20,17 +19,6 @@ pub(crate) struct Sums {
     // 0xffff_ffff where there is none, or where each is larger
     pub x_least: u32,
     pub y_least: u32,
-}
-
-// The smaller of a number and a step; one that does not fit is 0, and larger than every number.
-fn least(held: u32, step: u32) -> u32
-    ensures { λ r. ⌜ r ≡ cond (eqb step 0) held (min held step) ⌝ }
-{
-    if step == 0 {
-        held
-    } else {
-        math::uint_min(held, step)
-    }
 }
 
 impl Sums {
@@ -71,8 +59,8 @@ impl Sums {
             good: true,
             most: math::uint_max(self.most, capped::times(entry.width, entry.height)),
             fit: self.fit & ((step_x != 0) & (step_y != 0)),
-            x_least: least(self.x_least, step_x),
-            y_least: least(self.y_least, step_y),
+            x_least: power::least(self.x_least, step_x),
+            y_least: power::least(self.y_least, step_y),
         }
     }
 

@@ -10,7 +10,7 @@ use borrow.Author.Tests.{le-ltb}
 use Rattle.laws.specs.Cases.{le-or-lt}
 use Rattle.laws.specs.Below.{sum-none, sum-more}
 use Rattle.geometry.specs.Line.{Line, boundOf, step}
-use Rattle.geometry.specs.Axis.{fitted-small}
+use Rattle.geometry.specs.Fitted.{fitted-small}
 use Rattle.geometry.specs.Hits.{whole-law}
 use Rattle.packets.specs.Tile.{Sheet, lineX, lineY, resOf, precincts, entriesBefore}
 use Rattle.types.specs.Entries.{entryAt}

@@ -1,7 +1,8 @@
 -- `Sums::with`: a step that does not fit is told by 0, since none is 0. Assumes nothing.
 use borrow.Author.Needs.{needs}
 use native.Mathlib.Omega.{arith}
-use Rattle.survey.proofs.Components.{stride-above, fitted-told, fitted-least}
+use Rattle.survey.proofs.Components.{stride-above}
+use Rattle.geometry.specs.Fitted.{fitted-told, fitted-least}
 use Rattle.survey.specs.Passing.{strideOf}
 use Rattle.survey.proofs.sums.Sums.with.Statement.{statement}
 use Rattle.survey.proofs.sums.Sums.with.Tie as tie

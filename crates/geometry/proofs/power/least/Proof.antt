@@ -1,8 +1,8 @@
 -- `least`: the two cases of the definition. Assumes nothing.
 use borrow.Author.Needs.{needs}
 use borrow.Author.Tests.{ne-eqb}
-use Rattle.survey.proofs.sums.least.Statement.{statement}
-use Rattle.survey.proofs.sums.least.Tie as tie
+use Rattle.geometry.proofs.power.least.Statement.{statement}
+use Rattle.geometry.proofs.power.least.Tie as tie
 
 uint-min-requires : tie.Need-uint-min-requires
 uint-min-requires c κs = search needs
