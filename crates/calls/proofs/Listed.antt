@@ -9,22 +9,22 @@ use Rattle.laws.specs.Cases.{and-true, and-both, split}
 use Rattle.laws.specs.Means.{Means, ltb-means, leb-means, eqb-means, means-by, and-means}
 use Rattle.laws.specs.Parts.{means-same, itself}
 use Rattle.geometry.specs.Line.{hitAt}
-use Rattle.packets.specs.Tile.{Sheet, lineX, lineY, width, precincts, resOf, entriesBefore}
+use Rattle.packets.specs.Tile.{Sheet, lineX, lineY, width, precincts, resOf}
 use Rattle.types.specs.Orders.{byPoints, componentsGood}
 use Rattle.types.specs.declared.order.Order.{Order}
 use Rattle.types.specs.declared.order.Order.the-variants.{Lrcp as lrcp, Rlcp as rlcp, Rpcl as rpcl, Pcrl as pcrl, Cprl as cprl, NoPositions as other}
 use Rattle.types.specs.declared.order.Range.{Range}
 use Rattle.packets.specs.Positions.{met, numberAt, hasPositions, positionsIn}
-use Rattle.types.specs.Entries.{entryAt}
 use Rattle.packets.specs.Table.{sheetAt}
 use Rattle.packets.specs.Sound.{isIn}
+use Rattle.packets.specs.Meaning.{fit-good}
 use Rattle.packets.specs.Good.{Good}
 use Rattle.packets.specs.Met.{MetAt}
 use Rattle.packets.specs.Inside.{has-good, is-in, in-is, positions-none, in-positions, in-range, in-met, in-still, listed-point, listed-still, InRange, inside}
 use Rattle.types.specs.declared.state.State.{State}
 use Rattle.types.specs.declared.cursor.Position.{Position}
-use Rattle.calls.specs.Points.{inRange, countedOf, metOf, metBy, positionTest, Reached}
-use Rattle.calls.proofs.Resolution.{fit-good, count-is, wide-is, along-x, along-y}
+use Rattle.calls.specs.Points.{inRange, countedOf, metIn, positionTest}
+use Rattle.calls.specs.Reached.{Reached}
 
 axis-means : (t0 t1 x : ℕ) (t : Bool) → Means (leb t0 x && (ltb x t1 && t)) ((t0 ≤ x) × ((x < t1) × (t ≡ true)))
 axis-means t0 t1 x t = and-means (leb-means t0 x) (and-means (ltb-means x t1) (itself t))
@@ -62,7 +62,7 @@ module _ (s : Sheet) (g : Range) (p : Position) where
       omega (arith, h .1, range-means g p .0 e .component-to)
 
   -- the test of the point means that the precinct is met there
-  met-means : Means (metOf (lineX s (p .compno) (p .resno)) (lineY s (p .compno) (p .resno)) (width s (p .compno) (p .resno)) (precincts s (p .compno) (p .resno)) p) (MetAt s p)
+  met-means : Means (metIn s p) (MetAt s p)
   unfolding met numberAt
   met-means =
       let y : Bool = hitAt (lineY s (p .compno) (p .resno)) (p .y) in
@@ -93,12 +93,12 @@ module _ (s : Sheet) (g : Range) (p : Position) where
 
     -- in orders 2 to 4 it is of the point
     point-means : (o : Order) → byPoints o ≡ true → hasPositions s g o ≡ true → InRange g p
-        → Means (metOf (lineX s (p .compno) (p .resno)) (lineY s (p .compno) (p .resno)) (width s (p .compno) (p .resno)) (precincts s (p .compno) (p .resno)) p) (In p (positionsIn s g o))
+        → Means (metIn s p) (In p (positionsIn s g o))
     point-means o b h i = means-by met-means (listed-point s g o b h p i) (in-met s g o b p)
 
 -- the test by the order, of a resolution that there is
-pub in-test : (st : State) (table : List ℕ) (g : Range) (p : Position) → Reached st table p → (o : Order) → componentsGood st g ≡ true → inRange g p ≡ true
-    → positionTest st table o p ≡ isIn p (positionsIn (sheetAt st table) g o)
+pub in-test : (st : State) (table : List ℕ) (g : Range) (p : Position) → Reached st table (p .compno) (p .resno) → (o : Order) → componentsGood st g ≡ true → inRange g p ≡ true
+    → positionTest (sheetAt st table) o p ≡ isIn p (positionsIn (sheetAt st table) g o)
 unfolding isIn
 in-test st table g p r o f e = of o
   where
@@ -108,21 +108,13 @@ in-test st table g p r o f e = of o
     still : (o : Order) → byPoints o ≡ false → hasPositions s g o ≡ true → countedOf (precincts s (p .compno) (p .resno)) p ≡ isIn p (positionsIn s g o)
     still o b h = means-same (still-means s g p (fit-good st table (r .fit)) o b h (range-means g p .0 e)) (is-in p _, in-is p _)
 
-    point : (o : Order) → byPoints o ≡ true → hasPositions s g o ≡ true
-        → metOf (lineX s (p .compno) (p .resno)) (lineY s (p .compno) (p .resno)) (width s (p .compno) (p .resno)) (precincts s (p .compno) (p .resno)) p ≡ isIn p (positionsIn s g o)
+    point : (o : Order) → byPoints o ≡ true → hasPositions s g o ≡ true → metIn s p ≡ isIn p (positionsIn s g o)
     point o b h = means-same (point-means s g p (fit-good st table (r .fit)) o b h (range-means g p .0 e)) (is-in p _, in-is p _)
 
-    counted-there : countedOf (entryAt table (entriesBefore st (p .compno) + p .resno) .width * entryAt table (entriesBefore st (p .compno) + p .resno) .height) p ≡ countedOf (precincts s (p .compno) (p .resno)) p
-    counted-there = ap (λ (n : ℕ). countedOf n p) (count-is st table p r)
-
-    met-there : metBy st (entryAt table (entriesBefore st (p .compno) + p .resno)) p
-        ≡ metOf (lineX s (p .compno) (p .resno)) (lineY s (p .compno) (p .resno)) (width s (p .compno) (p .resno)) (precincts s (p .compno) (p .resno)) p
-    met-there = λ i. metOf (along-x st table p r i) (along-y st table p r i) (wide-is st table p r i) (count-is st table p r i) p
-
-    of : (o : Order) → positionTest st table o p ≡ isIn p (positionsIn s g o)
-    of lrcp = counted-there ∙ still lrcp refl f
-    of rlcp = counted-there ∙ still rlcp refl f
-    of rpcl = met-there ∙ point rpcl refl f
-    of pcrl = met-there ∙ point pcrl refl f
-    of cprl = met-there ∙ point cprl refl f
+    of : (o : Order) → positionTest s o p ≡ isIn p (positionsIn s g o)
+    of lrcp = still lrcp refl f
+    of rlcp = still rlcp refl f
+    of rpcl = point rpcl refl f
+    of pcrl = point pcrl refl f
+    of cprl = point cprl refl f
     of other = rw (positions-none s g other refl)

@@ -1,6 +1,6 @@
 -- The entry of one resolution of a sound state: its numbers are those of the resolution, and few, so that the number of a precinct which is met is small.
 -- Assumes nothing.
-use mathlib.Core.Path.{_≡_, refl}
+use mathlib.Core.Path.{_≡_, refl, sym}
 use mathlib.Core.List.{List}
 use mathlib.Core.Bool.{true}
 use Prim.Native.Nat.{ℕ, _+_, _*_, _≤_, _<_}
@@ -12,67 +12,47 @@ use borrow.Author.Tests.{leb-true, ltb-true}
 use Rattle.laws.specs.Cases.{and-true}
 use Rattle.geometry.specs.Line.{Line, count, hitAt, columnOf, meetsAt}
 use Rattle.geometry.specs.Hits.{Ordered, proper, factors, col-below}
-use Rattle.packets.specs.Tile.{Sheet, lineX, lineY, width, precincts, entriesBefore}
+use Rattle.packets.specs.Tile.{Sheet, lineX, lineY, width, height, precincts, entriesBefore}
 use Rattle.types.specs.Entries.{entryAt}
 use Rattle.packets.specs.Table.{entryOf, sheetAt}
-use Rattle.packets.specs.Good.{Good}
-use Rattle.packets.specs.Meaning.{Sound, sound-means, sound-good}
+use Rattle.packets.specs.Meaning.{Sound, fit-good}
 use Rattle.packets.specs.Entered.{entry-small, entry-is, few-precincts}
 use Rattle.packets.specs.Met.{precincts-of, ordered-x, ordered-y}
 use Rattle.types.specs.declared.state.State.{State}
 use Rattle.types.specs.declared.table.Entry.{Entry}
 use Rattle.types.specs.declared.cursor.Position.{Position}
-use Rattle.calls.specs.Points.{alongX, alongY, Fit, Reached, Counts}
+use Rattle.calls.specs.Points.{Counts}
+use Rattle.calls.specs.Reached.{Reached}
 
--- a sound state has what the laws of its sheet ask
-pub fit-good : (st : State) (table : List ℕ) → Fit st table → Good (sheetAt st table)
-fit-good st table f = sound-good st table (f .marks) (sound-means st table (f .marks) .1 (f .sound))
-
-module _ (st : State) (table : List ℕ) (p : Position) (r : Reached st table p) where
+module _ (st : State) (table : List ℕ) (c r : ℕ) (h : Reached st table c r) where
   abbrev s : Sheet
   s = sheetAt st table
 
-  abbrev sound : Sound st table (r .fit .marks)
-  sound = r .fit .sound
+  abbrev sound : Sound st table (h .fit .marks)
+  sound = h .fit .sound
 
-  pub few-before : p .compno < 16
-  few-before = omega (arith, sound .tile .components, r .component)
+  pub few-before : c < 16
+  few-before = omega (arith, sound .tile .components, h .component)
 
-  abbrev at : ℕ
-  at = entriesBefore st (p .compno) + p .resno
+  -- its entry is one of 528
+  pub small : entriesBefore st c + r < 528
+  small = entry-small st table (h .fit .marks) sound c r (h .component) (h .resolution)
 
-  -- it is one of 528
-  pub small : at < 528
-  small = entry-small st table (r .fit .marks) sound (p .compno) (p .resno) (r .component) (r .resolution)
+  pub entry : entryAt table (entriesBefore st c + r) ≡ entryOf s c r
+  entry = entry-is st table (h .fit .marks) sound c r (h .component) (h .resolution)
 
-  entry : entryAt table at ≡ entryOf s (p .compno) (p .resno)
-  entry = entry-is st table (r .fit .marks) sound (p .compno) (p .resno) (r .component) (r .resolution)
+  pub count-is : width s c r * height s c r ≡ precincts s c r
+  count-is = sym (precincts-of s c r (h .resolution))
 
-  pub wide-is : entryAt table at .width ≡ width s (p .compno) (p .resno)
-  wide-is = rw entry
-
-  pub count-is : entryAt table at .width * entryAt table at .height ≡ precincts s (p .compno) (p .resno)
-  count-is = rw (precincts-of s (p .compno) (p .resno) (r .resolution), entry)
-
-  pub along-x : alongX st (entryAt table at) p ≡ lineX s (p .compno) (p .resno)
-  along-x = rw entry
-
-  pub along-y : alongY st (entryAt table at) p ≡ lineY s (p .compno) (p .resno)
-  along-y = rw entry
-
-  pub few : entryAt table at .width * entryAt table at .height ≤ 65536
-  few = rw count-is (few-precincts st table (r .fit .marks) sound (p .compno) (p .resno) (r .component))
-
-  pub counts : Counts (alongX st (entryAt table at) p) (alongY st (entryAt table at) p) (entryAt table at)
+  pub counts : Counts (lineX s c r) (lineY s c r) (entryOf s c r)
   counts =
-      rw entry
-      (record {
+      record {
         wide = refl;
         high = refl;
-        upward-x = ordered-x s (fit-good st table (r .fit)) (p .compno) (p .resno) (r .component);
-        upward-y = ordered-y s (fit-good st table (r .fit)) (p .compno) (p .resno) (r .component);
-        few = rw entry at few;
-      })
+        upward-x = ordered-x s (fit-good st table (h .fit)) c r (h .component);
+        upward-y = ordered-y s (fit-good st table (h .fit)) c r (h .component);
+        few = rw count-is (few-precincts st table (h .fit .marks) sound c r (h .component));
+      }
 
 -- a precinct that is met along an axis is one of those counted
 column-below : (l : Line) → Ordered l → 0 < count l → (z : ℕ) → meetsAt l z ≡ true → columnOf l z < count l

@@ -13,7 +13,7 @@ use Rattle.types.specs.Ranges.{within, componentRange}
 use Rattle.packets.specs.Tile.{Sheet, dxOf, dyOf, resOf, maxPrec, maxRes, reported, needed, entriesBefore}
 use Rattle.packets.specs.Grid.{everywhere, gridAgreed}
 use Rattle.packets.specs.Table.{sheetAt}
-use Rattle.packets.specs.Sound.{tileGood, componentsSound, progressionsSound, tableSound, reportsSound, marksSound, stateSound}
+use Rattle.packets.specs.Sound.{tileGood, componentsSound, progressionsSound, tableSound, reportsSound, sheetSound}
 use Rattle.types.specs.declared.state.State.{State}
 use Rattle.survey.specs.declared.Findings.{Findings}
 use Rattle.survey.specs.declared.Source.the-variants.{Entries}
@@ -27,8 +27,8 @@ abbrev pub fieldsTest : State → Bool
 fieldsTest st = tileGood st && (componentsSound st && progressionsSound st)
 
 -- the tests of what was found
-abbrev pub findingsTest : State → List ℕ → Findings → Bool
-findingsTest st marks f = f .good && (sameReports st f && (f .grid && (f .few && leb (f .needed) (length marks))))
+abbrev pub findingsTest : State → Findings → Bool
+findingsTest st f = f .good && (sameReports st f && (f .grid && f .few))
 
 regroup : (a b c r : Bool) → (a && (b && (c && r))) ≡ ((a && (b && c)) && r)
 regroup true true c r = refl
@@ -67,25 +67,25 @@ module _ (st : State) (fields : fieldsTest st ≡ true) where
       let h : 0 < st .components = tile-some st (and-true (tileGood st) _ fields .0) .1 in
       omega (arith, leb-true 1 (resOf st 0) (level-range 0 h .0), max-at (resOf st) (st .components) 0 h)
 
-module _ (st : State) (table marks : List ℕ) where
+module _ (st : State) (table : List ℕ) where
   abbrev s : Sheet
   s = sheetAt st table
 
   abbrev rest : Bool
-  rest = reportsSound s && (gridAgreed s && marksSound st marks)
+  rest = reportsSound s && (gridAgreed s && leb (needed st) 65536)
 
-  state-is : stateSound st table marks ≡ (fieldsTest st && (tableSound st table && rest))
-  unfolding stateSound
-  state-is = regroup (tileGood st) (componentsSound st) (progressionsSound st) (tableSound st table && rest)
+  sheet-is : sheetSound st table ≡ (fieldsTest st && (tableSound st table && rest))
+  unfolding sheetSound
+  sheet-is = regroup (tileGood st) (componentsSound st) (progressionsSound st) (tableSound st table && rest)
 
   -- a state whose fields are not all in range
-  pub fields-fail : fieldsTest st ≡ false → false ≡ stateSound st table marks
-  fields-fail e = sym (state-is ∙ rw e)
+  pub fields-fail : fieldsTest st ≡ false → false ≡ sheetSound st table
+  fields-fail e = sym (sheet-is ∙ rw e)
 
   -- a table that is too short
-  pub table-short : length table < 16 * sumBelow (resOf st) (st .components) → false ≡ stateSound st table marks
+  pub table-short : length table < 16 * sumBelow (resOf st) (st .components) → false ≡ sheetSound st table
   unfolding tableSound entriesBefore
-  table-short h = sym (state-is ∙ rw (lt-leb _ _ h) (and-false (fieldsTest st)))
+  table-short h = sym (sheet-is ∙ rw (lt-leb _ _ h) (and-false (fieldsTest st)))
 
   -- FOUND OF A GOOD TABLE: the reports, the grid and the marks. With the reports right, the marks needed are those found
   needed-same : reportsSound s ≡ true → needed st ≡ needed (reported s)
@@ -95,7 +95,7 @@ module _ (st : State) (table marks : List ℕ) where
       let d = and-true (eqb (st .reports .«max_res») (maxRes st)) _ (a .1) in
       λ i. st .layers * (eqb-true (st .reports .«max_res») (maxRes st) (d .0) i * (st .components * eqb-true (st .reports .«max_prec») (maxPrec s) (a .0) i))
 
-  found-few : fieldsTest st ≡ true → leb (needed (reported s)) 65536 ≡ true → findingsTest st marks (surveyed s) ≡ rest
+  found-few : fieldsTest st ≡ true → leb (needed (reported s)) 65536 ≡ true → findingsTest st (surveyed s) ≡ rest
   unfolding reportsSound
   found-few fields f =
       let t = tile-some st (and-true (tileGood st) _ fields .0) in
@@ -104,7 +104,7 @@ module _ (st : State) (table marks : List ℕ) where
       (λ e. let n = needed-same e in rw (e, n, f))
       (λ e. rw e))
 
-  found-many : leb (needed (reported s)) 65536 ≡ false → findingsTest st marks (surveyed s) ≡ rest
+  found-many : leb (needed (reported s)) 65536 ≡ false → findingsTest st (surveyed s) ≡ rest
   found-many f =
       let none : rest ≡ false = split (reportsSound s) (λ e. let n = needed-same e in rw (e, n, f) (and-false (gridAgreed s))) (λ e. rw e) in
       rw (none, f) (simp and-false)
@@ -117,13 +117,24 @@ module _ (st : State) (table marks : List ℕ) where
         rw (le-leb _ _ (few-components st fields), components-range st fields, le-leb _ _ room)
         (λ i. everywhere st (λ c r. entries-sound table st c r i))
 
-    pub state-by : findingsTest st marks (surveyOf table Entries true st) ≡ stateSound st table marks
+    pub sheet-by : findingsTest st (surveyOf table Entries true st) ≡ sheetSound st table
     unfolding surveyOf
-    state-by = by (surveyGood table Entries true st) good-is ∙ sym (state-is ∙ rw fields)
+    sheet-by = by (surveyGood table Entries true st) good-is ∙ sym (sheet-is ∙ rw fields)
       where
-        by : (t : Bool) → t ≡ tableSound st table → findingsTest st marks (cond t (surveyed (sheetFrom table Entries st)) noSurvey) ≡ (tableSound st table && rest)
+        by : (t : Bool) → t ≡ tableSound st table → findingsTest st (cond t (surveyed (sheetFrom table Entries st)) noSurvey) ≡ (tableSound st table && rest)
         by false e = rw (← e)
         by true e =
             rw (← e)
-            (ap (λ (t : Sheet). findingsTest st marks (surveyed t)) (survey-entries table st)
+            (ap (λ (t : Sheet). findingsTest st (surveyed t)) (survey-entries table st)
             ∙ split (leb (needed (reported s)) 65536) (found-few fields) found-many)
+
+    -- of what is sound the marks found are those needed
+    pub needed-by : sheetSound st table ≡ true → surveyOf table Entries true st .needed ≡ needed st
+    unfolding surveyOf
+    needed-by e =
+        let a = and-true (tableSound st table) rest (and-true (fieldsTest st) (tableSound st table && rest) (sym sheet-is ∙ e) .1) in
+        let d = and-true (reportsSound s) _ (a .1) in
+        let n = needed-same (d .0) in
+        let few = and-true (gridAgreed s) (leb (needed st) 65536) (d .1) .1 in
+        rw (good-is ∙ a .0)
+        (ap (λ (t : Sheet). surveyed t .needed) (survey-entries table st) ∙ rw (← n, few))

@@ -6,6 +6,7 @@ pub mod output;
 mod place;
 mod reports;
 pub mod setup;
+mod sides;
 pub mod soundness;
 pub mod step;
 mod table;

@@ -1,4 +1,5 @@
 // Whether a cursor's place is one that its progression admits (01, 'Sound means').
+use crate::sides::Sides;
 use geometry::axis::Line;
 use types::cursor::Place;
 use types::cursor::Position;
@@ -7,15 +8,15 @@ use types::order::Range;
 use types::state::Progression;
 use types::state::State;
 use types::table::Entry;
-use types::table::entries;
 ghost use mathlib.Core.Path.{_≡_};
 ghost use Prim.Native.Nat.{_*_, _≤_, _<_};
 ghost use Rattle.geometry.specs.Axis.{lineOf};
 ghost use Rattle.packets.specs.Positions.{positionsOf};
 ghost use Rattle.packets.specs.Table.{sheetAt};
-ghost use Rattle.packets.specs.Tile.{resOf};
+ghost use Rattle.packets.specs.Meaning.{Fit};
 ghost use Rattle.packets.specs.Sound.{isIn, placeSound, positionsFor};
-ghost use Rattle.calls.specs.Points.{inRange, countedOf, metOf, alongX, alongY, metBy, positionTest, Fit, Reached, Counts};
+ghost use Rattle.calls.specs.Points.{inRange, countedOf, metOf, positionTest, Counts};
+ghost use Rattle.calls.specs.Reached.{Reached};
 
 // A position is in a progression's ranges.
 fn in_range(g: Range, p: Position) -> bool
@@ -52,47 +53,18 @@ fn met(x: Line, y: Line, e: Entry, p: Position) -> bool
     false
 }
 
-// The other orders: it is that of the resolution with this entry.
-fn at_point(st: State, e: Entry, p: Position) -> bool
-    requires { ⌜ (p .compno < 16) × (p .resno < resOf st (p .compno)) × Counts (alongX st e p) (alongY st e p) e ⌝ }
-    ensures { λ r. ⌜ r ≡ metBy st e p ⌝ }
-{
-    let c = p.compno as usize;
-    let resolutions = st.resolutions;
-    let level = resolutions[c] - 1 - p.resno;
-    let dx = st.dx;
-    let dy = st.dy;
-    let x = Line {
-        t0: st.tx0,
-        t1: st.tx1,
-        d: dx[c],
-        level,
-        pd: e.pdx,
-    };
-    let y = Line {
-        t0: st.ty0,
-        t1: st.ty1,
-        d: dy[c],
-        level,
-        pd: e.pdy,
-    };
-    met(x, y, e, p)
-}
-
 // A position in range, of a resolution that there is.
 fn of_resolution(st: State, table: &[u8], order: Order, p: Position) -> bool
-    requires { ⌜ Reached st (now table) p ⌝ }
-    ensures { λ r. ⌜ r ≡ positionTest st (now (table .entry)) order p ⌝ }
+    requires { ⌜ Reached st (now table) (p .compno) (p .resno) ⌝ }
+    ensures { λ r. ⌜ r ≡ positionTest (sheetAt st (now (table .entry))) order p ⌝ }
 {
-    let resolutions = st.resolutions;
-    let before = entries(&resolutions, p.compno as usize);
-    let e = Entry::at(table, before + (p.resno as usize));
+    let sides = Sides::of(st, table, p.compno, p.resno);
     match order {
-        Order::Lrcp => counted(e, p),
-        Order::Rlcp => counted(e, p),
-        Order::Rpcl => at_point(st, e, p),
-        Order::Pcrl => at_point(st, e, p),
-        Order::Cprl => at_point(st, e, p),
+        Order::Lrcp => counted(sides.entry, p),
+        Order::Rlcp => counted(sides.entry, p),
+        Order::Rpcl => met(sides.x, sides.y, sides.entry, p),
+        Order::Pcrl => met(sides.x, sides.y, sides.entry, p),
+        Order::Cprl => met(sides.x, sides.y, sides.entry, p),
         Order::NoPositions => false,
     }
 }

@@ -30,7 +30,7 @@ use Rattle.types.specs.declared.order.Range.{Range}
 use Rattle.packets.specs.Grid.{changeOf, stepsFit, stepsDivide, gridAgreed}
 use Rattle.packets.specs.Positions.{met, numberAt, positionsIn, hasPositions}
 use Rattle.packets.specs.Table.{tableOf, sheetIn, sheetAt}
-use Rattle.packets.specs.Sound.{placeSound, componentsSound, progressionsSound, entrySound, tableSound, reportsSound, stateSound, isIn, cursorSound, sound}
+use Rattle.packets.specs.Sound.{placeSound, componentsSound, progressionsSound, entrySound, tableSound, reportsSound, sheetSound, stateSound, isIn, cursorSound, sound}
 use Rattle.packets.specs.Same.{samePosition, same, decided}
 use Rattle.packets.specs.Calls.{Setup, Step, setupVerdict, setupOf, refusal, listed, after, stepBy, stepOf}
 use Rattle.packets.specs.Text.{textOf, digitsUpTo}
@@ -241,7 +241,7 @@ unfolding listedBy stepVia positionsBy listed stepOf sound cursorSound
 by-in-play rs = subst (λ (f : Sheet → Range → Order → List Position). allBy (listedBy f) (stepVia f) rs ≡ true) in-play
 
 in-play-hold : allBy (listedBy inPlay) (stepVia inPlay) rows ≡ true
-unfolding computed rows allBy holdsBy inPlay listedBy stepVia positionsBy setupOf stateSound isIn componentsSound progressionsSound tableSound entrySound reportsSound same decided behind freeByte markedByte freeAt markAt seek nextInPlay least
+unfolding computed rows allBy holdsBy inPlay listedBy stepVia positionsBy setupOf sheetSound stateSound isIn componentsSound progressionsSound tableSound entrySound reportsSound same decided behind freeByte markedByte freeAt markAt seek nextInPlay least
 in-play-hold = refl
 
 -- THEOREM: P-a to P-l hold

@@ -4,9 +4,12 @@ use mathlib.Core.Bool.{Bool, true, _&&_, false≢true}
 use mathlib.Core.List.{List, List·Memᴰ as In}
 use mathlib.Core.Logic.{_↔_, _⊎_}
 use Prim.Native.Nat.{ℕ, zero, suc, _%_, _≤_, _<_}
-use lib.ListN.{length}
+use native.Mathlib.Omega.{arith}
+use lib.ListN.{length, replicate, length-replicate}
 use lib.Dec.{eqb}
 use lib.IntN.{ℤ, pos, negsuc}
+use borrow.Author.Tests.{le-leb}
+use Rattle.laws.specs.Cases.{and-true, and-both}
 use Rattle.laws.specs.Means.{Means, ltb-means, leb-means, eqb-means, means-by, and-means, or-means, all-means, from-means}
 use Rattle.types.specs.State.{noProgression}
 use Rattle.types.specs.Ranges.{within, componentRange}
@@ -17,7 +20,7 @@ use Rattle.types.specs.declared.order.Order.the-variants.{Lrcp as lrcp, Rlcp as
 use Rattle.packets.specs.Grid.{everywhere, stepX, stepY, smallest, stepsFit, stepsDivide, agreed, changeOf, gridAgreed}
 use Rattle.packets.specs.Table.{entryWord, sheetAt}
 use Rattle.types.specs.Signed.{isZero}
-use Rattle.packets.specs.Sound.{tileGood, componentsSound, noRange, progressionGood, progressionsSound, entrySound, tableSound, reportsSound, stateSound, placeSound, positionsFor, cursorSound, sound}
+use Rattle.packets.specs.Sound.{tileGood, componentsSound, noRange, progressionGood, progressionsSound, entrySound, tableSound, reportsSound, sheetSound, stateSound, placeSound, positionsFor, cursorSound, sound}
 use Rattle.packets.specs.Good.{Good}
 use Rattle.packets.specs.Inside.{is-in, in-is}
 use Rattle.types.specs.declared.state.Progression.{Progression}
@@ -115,6 +118,11 @@ pub record Sound (st : State) (table marks : List ℕ) : Type 0 where
   pub grid : (k : ℕ) → k < st .progressions → AgreedFor (sheetAt st table) (orderOf (changeOf st k .prg))
   pub few : needed st ≤ 65536
   pub marks-long : needed st ≤ length marks
+
+-- a state and a table that are sound, whatever marks are lent with them
+pub record Fit (st : State) (table : List ℕ) : Type 0 where
+  pub marks : List ℕ
+  pub sound : Sound st table marks
 
 -- THE TESTS MEAN THE FACTS
 within-means : (lo hi x : ℕ) → Means (within lo hi x) (Between lo hi x)
@@ -219,16 +227,25 @@ reports-means s = and-means (eqb-means _ (maxPrec s)) (and-means (eqb-means _ (m
 
 -- a state is sound exactly if these facts hold
 pub sound-means : (st : State) (table marks : List ℕ) → (stateSound st table marks ≡ true) ↔ Sound st table marks
-unfolding stateSound
+unfolding sheetSound stateSound
 sound-means st table marks =
     let s : Sheet = sheetAt st table in
     means-by
+    (and-means
     (and-means (tile-means st)
     (and-means (components-means st)
-    (and-means (progressions-means st)
-    (and-means (table-means st table) (and-means (reports-means s) (and-means (grid-means s) (and-means (leb-means (needed st) 65536) (leb-means (needed st) (length marks)))))))))
+    (and-means (progressions-means st) (and-means (table-means st table) (and-means (reports-means s) (and-means (grid-means s) (leb-means (needed st) 65536)))))))
+    (leb-means (needed st) (length marks)))
     (λ w. search depth 24)
     (λ w. search depth 24)
+
+-- a state and a table are sound by themselves exactly if they are with some marks
+pub sheet-means : (st : State) (table : List ℕ) → (sheetSound st table ≡ true) ↔ Fit st table
+unfolding stateSound
+sheet-means st table = (
+  λ e. record { marks = replicate (needed st) 0; sound = sound-means st table (replicate (needed st) 0) .0 (and-both e (le-leb (needed st) (length (replicate (needed st) 0)) (omega (arith, length-replicate {A = ℕ} (needed st) 0)))) },
+  λ f. and-true (sheetSound st table) _ (sound-means st table (f .marks) .1 (f .sound)) .0,
+)
 
 -- 01: a cursor is fresh, ended, or stands at a position which its progression admits
 abbrev pub Admitted : Place → List Position → Type 0
@@ -265,3 +282,6 @@ sound-good st table marks e =
       most = w .most;
       deepest = w .deepest;
     }
+
+pub fit-good : (st : State) (table : List ℕ) → Fit st table → Good (sheetAt st table)
+fit-good st table f = sound-good st table (f .marks) (sound-means st table (f .marks) .1 (f .sound))

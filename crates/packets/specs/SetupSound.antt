@@ -18,7 +18,7 @@ use Rattle.packets.specs.Sheet.{wd, fieldsOf}
 use Rattle.packets.specs.Tile.{Sheet, dxOf, dyOf, resOf, levelOf, lineX, lineY, width, height, reported, needed, entriesBefore, tableBytes}
 use Rattle.packets.specs.Grid.{gridAgreed}
 use Rattle.packets.specs.Table.{entry, tableOf, entryWord, sheetAt, sheetIn}
-use Rattle.packets.specs.Sound.{tileGood, componentsSound, progressionsSound, entrySound, tableSound, reportsSound, stateSound}
+use Rattle.packets.specs.Sound.{tileGood, componentsSound, progressionsSound, entrySound, tableSound, reportsSound, sheetSound, stateSound}
 use Rattle.packets.specs.Readback.{table-length, table-word}
 use Rattle.packets.specs.Reading.{Read}
 use Rattle.packets.specs.Fields.{tile-good, component-range, exponent-range, components-sound, progressions-sound}
@@ -133,12 +133,12 @@ module _ (b : List ℕ) (small : Bytes b) (good : Read b) (old : List ℕ) (room
 
   -- SETUP'S ANSWER IS SOUND, for any marks that suffice
   pub setup-sound : (marks : List ℕ) → gridAgreed s ≡ true → needed state ≤ 65536 → needed state ≤ length marks → stateSound state table marks ≡ true
-  unfolding stateSound
+  unfolding sheetSound stateSound
   setup-sound marks g n m =
-      and-both fine-tile
-      (and-both fine-components
-      (and-both fine-progressions
-      (and-both table-sound (and-both reports-sound (and-both (grid-sound g) (and-both (le-leb _ _ n) (le-leb _ _ m)))))))
+      and-both
+      (and-both fine-tile
+      (and-both fine-components (and-both fine-progressions (and-both table-sound (and-both reports-sound (and-both (grid-sound g) (le-leb _ _ n)))))))
+      (le-leb _ _ m)
     where
       fine-tile : tileGood state ≡ true
       fine-tile = unfold reported in tile-good b good

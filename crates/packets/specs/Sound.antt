@@ -60,17 +60,17 @@ unfoldable pub reportsSound : Sheet → Bool
 reportsSound s =
     eqb (s .st .reports .«max_prec») (maxPrec s) && (eqb (s .st .reports .«max_res») (maxRes (s .st)) && (eqb (s .st .reports .«dx_min») (dxMin s) && eqb (s .st .reports .«dy_min») (dyMin s)))
 
--- 01: at most 65,536 marks are needed, and the marks suffice
-abbrev pub marksSound : State → List ℕ → Bool
-marksSound st marks = leb (needed st) 65536 && leb (needed st) (length marks)
-
--- 01: a state with its table and marks; opening has no cursor to test
-unfoldable pub stateSound : State → List ℕ → List ℕ → Bool
-stateSound st table marks =
+-- 01: everything that soundness asks of a state and its table, whatever marks and cursor are lent with them: at most 65,536 marks are needed
+unfoldable pub sheetSound : State → List ℕ → Bool
+sheetSound st table =
     tileGood st
     && (componentsSound st
     && (progressionsSound st
-    && (tableSound st table && (reportsSound (sheetAt st table) && (gridAgreed (sheetAt st table) && marksSound st marks)))))
+    && (tableSound st table && (reportsSound (sheetAt st table) && (gridAgreed (sheetAt st table) && leb (needed st) 65536)))))
+
+-- and the marks suffice; opening has no cursor to test
+unfoldable pub stateSound : State → List ℕ → List ℕ → Bool
+stateSound st table marks = sheetSound st table && leb (needed st) (length marks)
 
 -- a position is one of a list
 unfoldable pub isIn : Position → List Position → Bool

@@ -11,7 +11,7 @@ use Rattle.types.specs.Signed.{by-bits}
 use Rattle.types.specs.declared.order.Range.{Range}
 use Rattle.calls.specs.Points.{inRange}
 use Rattle.calls.proofs.Listed.{no-components, out-of-range, component-there, no-resolution, in-test}
-use Rattle.calls.proofs.Resolution.{fit-good}
+use Rattle.packets.specs.Meaning.{fit-good}
 use Rattle.calls.proofs.place.listed.Statement.{statement}
 use Rattle.calls.proofs.place.listed.Tie as tie
 
