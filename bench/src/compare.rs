@@ -2,6 +2,7 @@
 
 #[cfg(feature = "ours")]
 pub mod lent;
+mod rectangles;
 
 use std::collections::BTreeMap;
 
@@ -33,6 +34,10 @@ pub struct Tally {
     pub sparse: u64,
     /// Sheets whose every grid point was tested, beside the candidates.
     pub every_point: u64,
+    /// Precincts whose rectangles were counted sample by sample.
+    pub rectangles: u64,
+    /// Precincts met at a point, which was compared with the rectangle's corner; once for each progression.
+    pub corners: u64,
     /// Sheets run by single steps, too.
     pub stepped: u64,
     /// Refused sheets by number.
@@ -53,6 +58,7 @@ pub fn sheet(bytes: &[u8], tally: &mut Tally) -> Result<(), String> {
             tally.packets += answer.packets.len() as u64;
             let tile = Tile::of(&answer.sheet);
             every_point(bytes, answer, &tile, tally)?;
+            rectangles::sheet(answer, &tile, tally)?;
             with_rust(answer, &tile, tally)?;
         }
     }

@@ -8,6 +8,7 @@ mod grid;
 mod lent;
 mod positions;
 mod reader;
+mod rectangles;
 mod steps;
 #[cfg(test)]
 mod tests;
@@ -16,8 +17,9 @@ use oracle::sheet::{Packet, Reports, Sheet};
 
 use geometry::Tile;
 pub use lent::Lent;
-pub use positions::{ranges, Points, Position};
+pub use positions::{each as each_position, ranges, Points, Position};
 pub use reader::read;
+pub use rectangles::{counted, rectangle, Rectangle};
 pub use steps::{Cursor, Place, Step, Steps};
 
 const MOST_MARKS: u128 = 65_536;

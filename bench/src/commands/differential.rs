@@ -73,13 +73,25 @@ pub fn smallest(bytes: Vec<u8>) -> String {
 }
 
 fn tell(what: &str, tally: &Tally) {
-    let Tally { sheets, packets, with_rust, orders, outside_domain, sparse, every_point, stepped, refused } =
-        tally;
+    let Tally {
+        sheets,
+        packets,
+        with_rust,
+        orders,
+        outside_domain,
+        sparse,
+        every_point,
+        rectangles,
+        corners,
+        stepped,
+        refused,
+    } = tally;
     let refused: Vec<String> = refused.iter().map(|(number, count)| format!("{number}: {count}")).collect();
     println!(
         "{what}: {sheets}; accepted with {packets} packets; compared with the Rust: {with_rust} \
          (orders 0 to 4: {orders:?}); outside its domain: {outside_domain}; too large a grid: \
-         {sparse}; every point tested too: {every_point}; run by single steps too: {stepped}; refused: {}; no difference",
+         {sparse}; every point tested too: {every_point}; rectangles counted too: {rectangles}; corners met at a \
+         point: {corners}; run by single steps too: {stepped}; refused: {}; no difference",
         refused.join(", ")
     );
 }

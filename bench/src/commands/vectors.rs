@@ -1,7 +1,9 @@
 //! Stored answers, for a program that has neither the Rust nor the model at hand: `rust` a fixed sample of the
-//! Rust's, `model` the model's at the limits and from every cursor. README.md has the format.
+//! Rust's, `model` the model's at the limits, from every cursor and of precincts' rectangles. README.md has the
+//! format.
 
 mod limits;
+mod rectangles;
 mod rust;
 mod sample;
 mod steps;
@@ -26,7 +28,14 @@ pub fn run(arguments: &mut Arguments) -> Result<(), String> {
             (rust::ARITHMETIC, rust::arithmetic()),
         ],
     )?;
-    write(&folder.join("model"), &[(limits::KIND, limits::cases()), (steps::KIND, steps::cases())])
+    write(
+        &folder.join("model"),
+        &[
+            (limits::KIND, limits::cases()),
+            (steps::KIND, steps::cases()),
+            (rectangles::KIND, rectangles::cases()),
+        ],
+    )
 }
 
 /// A file of cases, kind after kind.
@@ -54,4 +63,13 @@ fn padded(bytes: &[u8]) -> Vec<u8> {
     let mut padded = bytes.to_vec();
     padded.resize(bytes.len().next_multiple_of(4), 0);
     padded
+}
+
+/// So many bytes of a table and a byte after it, with bits of one of them changed.
+fn lent_table(table: &[u8], length: usize, place: usize, bits: u8) -> Vec<u8> {
+    let mut lent = table.to_vec();
+    lent.push(0);
+    lent[place] ^= bits;
+    lent.truncate(length);
+    lent
 }

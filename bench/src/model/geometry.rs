@@ -96,6 +96,14 @@ impl Tile {
         self.components.iter().flatten()
     }
 
+    /// The same with the numbers of component and resolution.
+    pub fn numbered(&self) -> impl Iterator<Item = (u32, u32, &Resolution)> {
+        let components = (0..).zip(&self.components);
+        components.flat_map(|(c, resolutions)| {
+            (0..).zip(resolutions).map(move |(r, resolution)| (c, r, resolution))
+        })
+    }
+
     pub fn largest_precincts(&self) -> u64 {
         self.resolutions().map(Resolution::precincts).max().unwrap()
     }

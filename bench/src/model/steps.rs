@@ -33,7 +33,7 @@ pub enum Step {
 /// An accepted sheet set up, with the positions of each of its progressions.
 pub struct Steps {
     sheet: Sheet,
-    tile: Tile,
+    pub tile: Tile,
     /// As setup writes it.
     pub table: Vec<u8>,
     pub positions: Vec<Vec<Position>>,

@@ -1,6 +1,8 @@
-//! 01's sheets A and P-a to P-l, and B7's slow ones, through the model.
+//! 01's sheets A and P-a to P-l, and B7's slow ones, through the model; and the rectangles of their precincts.
 
-use super::{read, run, Answer, Cursor, Place, Points, Position, Step, Steps};
+use super::{
+    accept, counted, read, rectangle, run, Answer, Cursor, Place, Points, Position, Rectangle, Step, Steps,
+};
 use crate::commands::show::from_words;
 
 const A: &str = "1 0 0 64 32 2 1 1, 2 1 1 2, 3 4 4, 3 5 5";
@@ -166,4 +168,47 @@ fn a_table_is_sound_if_setup_writes_it() {
     assert!(!over(&[(11, 1)]) && !over(&[(3, 5)]));
     // Exponents that change no count; both of them change the smallest step.
     assert!(over(&[(7, 5)]) && over(&[(23, 6)]) && !over(&[(7, 5), (23, 6)]));
+}
+
+/// The rectangles of a resolution of component 0, which are also counted; -14 is what comes after them.
+fn rectangles(words: &str, resolution: u32) -> Vec<Rectangle> {
+    let (_, tile) = accept(&from_words(words).unwrap()).ok().unwrap();
+    let asked = |precinct| rectangle(&tile, 0, resolution, precinct);
+    let by_grid: Vec<Rectangle> = (0..).map_while(|precinct| asked(precinct).ok()).collect();
+    assert_eq!(counted(&tile.components[0][resolution as usize]).as_ref(), Some(&by_grid));
+    assert_eq!([asked(by_grid.len() as u32), asked(u32::MAX)], [Err(-14); 2]);
+    by_grid
+}
+
+#[test]
+fn rectangles_of_a_are_whole_cells() {
+    assert_eq!(rectangles(&a_with("5 2"), 0), [[0, 0, 16, 16], [16, 0, 32, 16]]);
+    assert_eq!(rectangles(&a_with("5 2"), 1), [[0, 0, 32, 32], [32, 0, 64, 32]]);
+}
+
+#[test]
+fn rectangles_are_clipped_to_the_resolution() {
+    let columns = "1 5 0 40 16 1 1 1, 2 1 1 1, 3 4 4, 5 2";
+    assert_eq!(rectangles(columns, 0), [[5, 0, 16, 16], [16, 0, 32, 16], [32, 0, 40, 16]]);
+    let far = "1 4294934528 0 T 1 1 1 1, 2 1 1 1, 3 15 15, 5 2";
+    assert_eq!(rectangles(far, 0), [[4_294_934_528, 0, 4_294_967_295, 1]]);
+    // Two rows, dx 2 and one level: 3..10 by 1..5 becomes 2..5 by 1..5, then 1..3 by 1..3.
+    let rows = "1 3 1 10 5 1 1 1, 2 2 1 2, 3 1 1, 3 2 1, 5 0";
+    assert_eq!(rectangles(rows, 0), [[1, 1, 2, 2], [2, 1, 3, 2], [1, 2, 2, 3], [2, 2, 3, 3]]);
+    let upper = [[2, 1, 4, 2], [4, 1, 5, 2], [2, 2, 4, 4], [4, 2, 5, 4], [2, 4, 4, 5], [4, 4, 5, 5]];
+    assert_eq!(rectangles(rows, 1), upper);
+}
+
+#[test]
+fn an_empty_resolution_has_no_rectangles() {
+    assert!(rectangles("1 1 0 2 1 1 1 1, 2 4 1 1, 3, 5", 0).is_empty());
+    assert!(rectangles("1 7 0 7 9 1 1 1, 2 1 1 1, 3, 5 2", 0).is_empty());
+}
+
+#[test]
+fn a_rectangle_refuses_what_the_table_has_not_got() {
+    let (_, tile) = accept(&from_words(&a_with("5 2")).unwrap()).ok().unwrap();
+    for [component, resolution] in [[1, 0], [u32::MAX, 0], [0, 2], [0, u32::MAX], [1, 1]] {
+        assert_eq!(rectangle(&tile, component, resolution, 0), Err(-14));
+    }
 }

@@ -5,8 +5,8 @@ use contract.Lifetimes.{Lfts}
 use denote.Ref.{now}
 use denote.Triple.Clauses.{AtExit}
 use Rattle.laws.specs.Determined.{determined, determined-by, OneAnswer}
-use Rattle.types.specs.Answers.{ofOpened}
-use Rattle.packets.specs.Apart.{setup-apart, opened-apart, stepped-apart}
+use Rattle.types.specs.Answers.{ofOpened, ofLocated}
+use Rattle.packets.specs.Apart.{setup-apart, opened-apart, stepped-apart, located-apart}
 use Rattle.calls.proofs.setup.setup_for.Kinds as setup-for-kinds
 use Rattle.calls.proofs.setup.setup_for.Reads as setup-for
 use Rattle.calls.proofs.setup.setup.Kinds as setup-kinds
@@ -21,6 +21,8 @@ use Rattle.calls.proofs.open.open.Kinds as opening-kinds
 use Rattle.calls.proofs.open.open.Reads as opening
 use Rattle.calls.proofs.step.step.Kinds as step-kinds
 use Rattle.calls.proofs.step.step.Reads as step
+use Rattle.calls.proofs.rectangle.rectangle.Kinds as rectangle-kinds
+use Rattle.calls.proofs.rectangle.rectangle.Reads as rectangle
 use Rattle.calls.proofs.whole.whole_run.Kinds as whole-run-kinds
 use Rattle.calls.proofs.whole.whole_run.Reads as whole-run
 
@@ -50,6 +52,9 @@ sound-determined κs a r s e f = determined _ r s
 
 pub open-determined : OneAnswer opening-kinds.ps opening-kinds.r opening.Post
 open-determined κs a r s e f = determined-by ofOpened opened-apart _ r s
+
+pub rectangle-determined : OneAnswer rectangle-kinds.ps rectangle-kinds.r rectangle.Post
+rectangle-determined κs a r s e f = determined-by ofLocated located-apart _ r s
 
 pub step-determined : OneAnswer step-kinds.ps step-kinds.r step.Post
 step-determined κs a r s e f p q = stepped-apart r s (p .0 ∙ sym (q .0))

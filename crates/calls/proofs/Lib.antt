@@ -1,5 +1,6 @@
 pub mod InRange
 pub mod Resolution
+pub mod Located
 pub mod Listed
 pub mod SoundBy
 pub mod SetUps

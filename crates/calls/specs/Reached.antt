@@ -1,7 +1,10 @@
 -- A resolution that a sound state has, as the calls hold it.
-use Prim.Native.Nat.{ℕ, _<_}
+use Prim.Native.Nat.{ℕ, _/_, _%_, _<_}
 use mathlib.Core.List.{List}
+use Rattle.geometry.specs.Axis.{lineOf, boundsOf, cellOf}
 use Rattle.geometry.specs.declared.axis.Line.{Line}
+use Rattle.geometry.specs.declared.axis.Resolution.{Resolution}
+use Rattle.geometry.specs.declared.tile.Area.{Area}
 use Rattle.packets.specs.Tile.{Sheet, dxOf, dyOf, resOf, levelOf}
 use Rattle.packets.specs.Table.{entryOf}
 use Rattle.packets.specs.Meaning.{Fit}
@@ -21,4 +24,17 @@ sidesOf s c r =
       entry = entryOf s c r;
       x = record { t0 = s .st .tx0; t1 = s .st .tx1; d = dxOf (s .st) c; level = levelOf (s .st) c r; pd = s .pdx c r };
       y = record { t0 = s .st .ty0; t1 = s .st .ty1; d = dyOf (s .st) c; level = levelOf (s .st) c r; pd = s .pdy c r };
+    }
+
+-- its precinct k, column by column and row by row
+abbrev cell : Line → ℕ → Resolution
+cell l i = cellOf (boundsOf (lineOf l)) (l .pd) i
+
+abbrev pub areaOf : Sides → ℕ → Area
+areaOf s k =
+    record {
+      x0 = cell (s .x) (k % s .entry .width) .r0;
+      y0 = cell (s .y) (k / s .entry .width) .r0;
+      x1 = cell (s .x) (k % s .entry .width) .r1;
+      y1 = cell (s .y) (k / s .entry .width) .r1;
     }

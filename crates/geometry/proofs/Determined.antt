@@ -7,6 +7,8 @@ use Rattle.geometry.proofs.axis.Axis.at.Kinds as axis-at-kinds
 use Rattle.geometry.proofs.axis.Axis.at.Reads as axis-at
 use Rattle.geometry.proofs.axis.Resolution.columns.Kinds as columns-kinds
 use Rattle.geometry.proofs.axis.Resolution.columns.Reads as columns
+use Rattle.geometry.proofs.axis.Line.precinct.Kinds as precinct-kinds
+use Rattle.geometry.proofs.axis.Line.precinct.Reads as precinct
 use Rattle.geometry.proofs.axis.step.Kinds as step-kinds
 use Rattle.geometry.proofs.axis.step.Reads as step
 use Rattle.geometry.proofs.axis.Line.meets.Kinds as meets-kinds
@@ -54,6 +56,9 @@ axis-at-determined κs a r s e f = determined _ r s
 
 pub columns-determined : OneAnswer columns-kinds.ps columns-kinds.r columns.Post
 columns-determined κs a r s e f = determined _ r s
+
+pub precinct-determined : OneAnswer precinct-kinds.ps precinct-kinds.r precinct.Post
+precinct-determined κs a r s e f = determined _ r s
 
 pub step-determined : OneAnswer step-kinds.ps step-kinds.r step.Post
 step-determined κs a r s e f = determined _ r s

@@ -1,7 +1,7 @@
 -- An axis as the code holds it: the numbers of a component and of its resolutions, in the words of Line.
-use Prim.Native.Nat.{ℕ, _/_, _^_}
+use Prim.Native.Nat.{ℕ, _/_, _^_, min}
 use Rattle.laws.specs.Ceiling.{ceilDiv}
-use Rattle.geometry.specs.Precinct.{across}
+use Rattle.geometry.specs.Precinct.{across, cellFrom, cellTo}
 use Rattle.geometry.specs.Line as line
 use Rattle.geometry.specs.declared.axis.Axis.{Axis}
 use Rattle.geometry.specs.declared.axis.Resolution.{Resolution}
@@ -19,6 +19,10 @@ resolutionOf a level = record { r0 = ceilDiv (a .c0) (2 ^ level); r1 = ceilDiv (
 -- 01: floor(rx0/2^pdx), the first column; T.800 B.6: numprecinctswide
 unfoldable pub columnsOf : Resolution → ℕ → Columns
 columnsOf r pd = record { first = r .r0 / 2 ^ pd; count = across (r .r0) (r .r1) pd }
+
+-- T.800 B.6: the samples of its precinct i; beyond the last there are none
+unfoldable pub cellOf : Resolution → ℕ → ℕ → Resolution
+cellOf r pd i = record { r0 = min (r .r1) (cellFrom (r .r0) pd i); r1 = cellTo (r .r0) (r .r1) pd i }
 
 -- the code's line
 abbrev pub lineOf : Line → line.Line

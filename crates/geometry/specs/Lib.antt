@@ -8,3 +8,4 @@ pub mod Axis
 pub mod Fitted
 pub mod Hits
 pub mod Raster
+pub mod Cells

@@ -6,7 +6,7 @@ use lib.Dec.{ltb, leb, eqb}
 use Rattle.laws.specs.Ceiling.{ceilDiv}
 use Rattle.laws.specs.Gather.{keep}
 use Rattle.laws.specs.Axis.{span}
-use Rattle.geometry.specs.Precinct.{across}
+use Rattle.geometry.specs.Precinct.{across, cellFrom, cellTo}
 
 -- the tile from t0 to t1, the component's step d (XRsiz or YRsiz), the resolution's level (N_L - r) and the precinct exponent pd (PPx or PPy)
 pub record Line : Type 0 where
@@ -38,6 +38,13 @@ count s = across (low s) (high s) (s .pd)
 -- 01: floor(rx0/2^pdx), the first column
 abbrev pub first : Line → ℕ
 first s = low s / 2 ^ s .pd
+
+-- T.800 B.6: the samples of precinct i, counted from the first
+abbrev pub cellLow : Line → ℕ → ℕ
+cellLow s i = cellFrom (low s) (s .pd) i
+
+abbrev pub cellHigh : Line → ℕ → ℕ
+cellHigh s i = cellTo (low s) (high s) (s .pd) i
 
 -- T.800 B.12.1.3: trx0·2^(N_L - r) is divisible by 2^(PPx + N_L - r)
 abbrev pub whole : Line → Bool

@@ -1,5 +1,5 @@
 -- Bounds and precincts on one axis: T.800 B.3 (components), B.5 (resolutions), B.6 (precincts); 01, 'Geometry'.
-use Prim.Native.Nat.{ℕ, _-_, _/_, _^_}
+use Prim.Native.Nat.{ℕ, _+_, _-_, _*_, _/_, _^_, min, max}
 use mathlib.Core.Bool.{cond}
 use mathlib.Core.List.{[], _∷_}
 use lib.Dec.{ltb}
@@ -18,6 +18,14 @@ resolutionBoundOf c level = ceildivpow2Of c level
 -- T.800 B.6: ⌈trx1 / 2^PPx⌉ - ⌊trx0 / 2^PPx⌋ if trx1 > trx0, else 0
 unfoldable pub across : ℕ → ℕ → ℕ → ℕ
 across r0 r1 pd = cond (ltb r0 r1) (ceilDiv r1 (2 ^ pd) - r0 / 2 ^ pd) 0
+
+-- T.800 B.6: precincts are the cells of a grid of 2^PPx samples that starts at 0. Of precinct i, counted from that in which trx0 lies, the first sample and
+-- the end, both of the resolution
+unfoldable pub cellFrom : ℕ → ℕ → ℕ → ℕ
+cellFrom r0 pd i = max r0 ((r0 / 2 ^ pd + i) * 2 ^ pd)
+
+unfoldable pub cellTo : ℕ → ℕ → ℕ → ℕ → ℕ
+cellTo r0 r1 pd i = min r1 ((r0 / 2 ^ pd + i + 1) * 2 ^ pd)
 
 -- the number of precincts; -22 for an exponent of 32 or more
 unfoldable pub precinctsOf : ℕ → ℕ → ℕ → Said

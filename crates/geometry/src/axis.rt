@@ -1,13 +1,14 @@
 // One axis of the tile (01, 'Geometry' and 'Ranges and orders'): the bounds of a component, computed once, and of its resolutions, their precincts and the
 // step from one to the next, and the points at which these are met. They are computed here and nowhere else. Every function answers for every argument.
 use crate::ceiling;
+use crate::math;
 use crate::power;
 ghost use mathlib.Core.Path.{_≡_};
 ghost use Prim.Native.Nat.{_+_, _*_, _%_, _^_};
 ghost use lib.Dec.{eqb};
 ghost use Rattle.geometry.specs.Line.{boundOf, columnOf, meetsAt};
 ghost use Rattle.geometry.specs.Fitted.{fitted};
-ghost use Rattle.geometry.specs.Axis.{axisOf, resolutionOf, columnsOf, lineOf, boundsOf};
+ghost use Rattle.geometry.specs.Axis.{axisOf, resolutionOf, columnsOf, cellOf, lineOf, boundsOf};
 
 // A component: its bounds, and its step, XRsiz or YRsiz.
 pub struct Axis {
@@ -69,6 +70,24 @@ impl Resolution {
         let count = ceiling::shifted(self.r1, pd) - first;
         Columns { first, count }
     }
+
+    // The samples of its precinct i, counted from the first; beyond the last there are none.
+    fn precinct(self, pd: u32, i: u32) -> Resolution
+        ensures { λ r. ⌜ r ≡ cellOf self pd i ⌝ }
+    {
+        let columns = self.columns(pd);
+        if columns.count <= i {
+            return Resolution {
+                r0: self.r1,
+                r1: self.r1,
+            };
+        }
+        let cell = columns.first + i;
+        Resolution {
+            r0: math::uint_max(self.r0, power::raised(cell, pd)),
+            r1: power::least(self.r1, power::raised(cell + 1, pd)),
+        }
+    }
 }
 
 // From a precinct to the next in points of the grid; 0 where that does not fit 32 bits.
@@ -98,6 +117,13 @@ impl Line {
         ensures { λ r. ⌜ r ≡ boundsOf (lineOf self) ⌝ }
     {
         Axis::of(self.t0, self.t1, self.d).at(self.level)
+    }
+
+    // The samples of precinct i, counted from the first; beyond the last there are none.
+    pub fn precinct(self, i: u32) -> Resolution
+        ensures { λ r. ⌜ r ≡ cellOf (boundsOf (lineOf self)) (self .pd) i ⌝ }
+    {
+        self.resolution().precinct(self.pd, i)
     }
 
     // The first sample at or after point x.

@@ -5,7 +5,7 @@ use mathlib.Core.Option.{Option, some, none}
 use Prim.Native.Nat.{zero, suc}
 use lib.Dec.{eqb}
 use lib.IntN.{ℤ, pos, negsuc}
-use Rattle.types.specs.Answers.{numberOf, SetUpSaid, ofSetUp, OpenSaid, ofOpened, StepSaid, ofStepped}
+use Rattle.types.specs.Answers.{numberOf, SetUpSaid, ofSetUp, OpenSaid, ofOpened, StepSaid, ofStepped, RectangleSaid, ofLocated}
 use Rattle.types.specs.declared.cursor.Cursor.{Cursor}
 use Rattle.types.specs.declared.answer.Verdict.{Verdict}
 use Rattle.types.specs.declared.answer.Verdict.the-variants as verdict
@@ -14,7 +14,10 @@ use Rattle.types.specs.declared.answer.Opened.{Opened}
 use Rattle.types.specs.declared.answer.Opened.the-variants as opened
 use Rattle.types.specs.declared.answer.Stepped.{Stepped}
 use Rattle.types.specs.declared.answer.Stepped.the-variants as stepped
+use Rattle.types.specs.declared.answer.Located.{Located}
+use Rattle.types.specs.declared.answer.Located.the-variants as located
 use Rattle.types.specs.declared.cursor.Position.{Position}
+use Rattle.geometry.specs.declared.tile.Area.{Area}
 
 -- a verdict from its number
 byNumber : ℤ → Verdict
@@ -74,3 +77,18 @@ by-packet (stepped.Unsound c) = refl
 
 pub stepped-apart : (r s : Stepped) → ofStepped r ≡ ofStepped s → r ≡ s
 stepped-apart r s e = sym (by-packet r) ∙ ap (λ (x : StepSaid). byPacket (x .packet) (x .number) (x .cursor)) e ∙ by-packet s
+
+-- a rectangle from what it says
+byArea : Option Area → ℤ → Located
+byArea (some a) n = located.Rectangle a
+byArea none (pos n) = located.NoSuch
+byArea none (negsuc n) = elim (eqb n 8) [ true ↦ located.Unsound | false ↦ located.NoSuch ]
+
+by-area : (r : Located) → byArea (ofLocated r .area) (ofLocated r .number) ≡ r
+unfolding byArea
+by-area (located.Rectangle a) = refl
+by-area located.Unsound = refl
+by-area located.NoSuch = refl
+
+pub located-apart : (r s : Located) → ofLocated r ≡ ofLocated s → r ≡ s
+located-apart r s e = sym (by-area r) ∙ ap (λ (x : RectangleSaid). byArea (x .area) (x .number)) e ∙ by-area s

@@ -1,6 +1,6 @@
 -- The calls: for every argument, refused or not, the answer and the later contents of everything lent.
 use Prim.Native.Nat.{ℕ, _-_, _*_}
-use mathlib.Core.Bool.{cond}
+use mathlib.Core.Bool.{cond, _&&_}
 use mathlib.Core.List.{List, [], _∷_, map}
 use mathlib.Core.Option.{some, none}
 use lib.ListN.{length, replicate}
@@ -14,11 +14,11 @@ use Rattle.laws.specs.AllRuns.{joined, dedupe}
 use Rattle.types.specs.State.{emptyState, freshCursor, endedCursor}
 use Rattle.words.specs.Words.{wordsBytes, over}
 use Rattle.packets.specs.Sheet.{readVerdict}
-use Rattle.packets.specs.Tile.{reported, needed, indexOf, tableBytes}
+use Rattle.packets.specs.Tile.{precincts, rectangle, reported, needed, indexOf, tableBytes}
 use Rattle.packets.specs.Grid.{gridAgreed}
-use Rattle.packets.specs.Table.{sheetIn, tableOf}
-use Rattle.types.specs.Answers.{SetUpSaid, OpenSaid, StepSaid}
-use Rattle.packets.specs.Sound.{stateSound, sound, positionsFor}
+use Rattle.packets.specs.Table.{sheetIn, sheetAt, tableOf}
+use Rattle.types.specs.Answers.{SetUpSaid, OpenSaid, StepSaid, RectangleSaid}
+use Rattle.packets.specs.Sound.{sheetSound, stateSound, sound, positionsFor}
 use Rattle.packets.specs.Same.{same}
 use Rattle.types.specs.declared.state.State.{State}
 use Rattle.types.specs.declared.cursor.Position.{Position}
@@ -75,6 +75,16 @@ openOf st table marks k =
     (record { number = pos 0; cursor = some (freshCursor k) })
     (record { number = refusal 11; cursor = none }))
     (record { number = refusal 9; cursor = none })
+
+-- RECTANGLE of a precinct on its resolution. 02, P2: -9 where state or table is not sound, then -14 for a component, resolution or precinct that the table has
+-- not got
+unfoldable pub rectangleOf : State → List ℕ → ℕ → ℕ → ℕ → RectangleSaid
+rectangleOf st table c r k =
+    cond (sheetSound st table)
+    (cond (ltb c (st .components) && ltb k (precincts (sheetAt st table) c r))
+    (record { number = pos 0; area = some (rectangle (sheetAt st table) c r k) })
+    (record { number = refusal 14; area = none }))
+    (record { number = refusal 9; area = none })
 
 -- STEP. 01: a step searches after its cursor, in order
 abbrev pub after : Place → List Position → List Position

@@ -19,11 +19,12 @@ use Rattle.laws.specs.Runs.{seek}
 use Rattle.laws.specs.Marks.{freeByte, markedByte, freeAt, markAt}
 use Rattle.laws.specs.AllRuns.{has, unseen, joined, dedupe}
 use Rattle.words.specs.Words.{wordAt, wordsBytes}
-use Rattle.geometry.specs.Precinct.{across}
+use Rattle.geometry.specs.Precinct.{across, cellFrom, cellTo}
 use Rattle.geometry.specs.Line.{boundOf, count, hitAt, columnOf}
+use Rattle.geometry.specs.declared.tile.Area.{Area}
 use Rattle.types.specs.State.{freshCursor, origin}
 use Rattle.packets.specs.Sheet.{recordVerdict, dueAfter, readFrom, readVerdict, componentRecord, progressionAt, fieldsOf}
-use Rattle.packets.specs.Tile.{Sheet, width, height, resOf, maxPrec, maxRes, dxMin, dyMin, reported, needed, indexOf, entriesBefore, tableBytes}
+use Rattle.packets.specs.Tile.{Sheet, width, height, resOf, rectangle, maxPrec, maxRes, dxMin, dyMin, reported, needed, indexOf, entriesBefore, tableBytes}
 use Rattle.types.specs.Orders.{orderOf, rangeOf}
 use Rattle.types.specs.declared.order.Order.{Order}
 use Rattle.types.specs.declared.order.Range.{Range}
@@ -32,7 +33,7 @@ use Rattle.packets.specs.Positions.{met, numberAt, positionsIn, hasPosit
 use Rattle.packets.specs.Table.{tableOf, sheetIn, sheetAt}
 use Rattle.packets.specs.Sound.{placeSound, componentsSound, progressionsSound, entrySound, tableSound, reportsSound, sheetSound, stateSound, isIn, cursorSound, sound}
 use Rattle.packets.specs.Same.{samePosition, same, decided}
-use Rattle.packets.specs.Calls.{Setup, Step, setupVerdict, setupOf, refusal, listed, after, stepBy, stepOf}
+use Rattle.packets.specs.Calls.{Setup, Step, setupVerdict, setupOf, rectangleOf, refusal, listed, after, stepBy, stepOf}
 use Rattle.packets.specs.Text.{textOf, digitsUpTo}
 use Rattle.packets.specs.Strided.{strided, pointsFor}
 use Rattle.packets.specs.InPlay.{nextX, nextY, nextInPlay, in-play-listed}
@@ -64,6 +65,16 @@ unlike prg =
 -- P-i's: 17 resolutions, exponents 15
 abbrev deep : ℕ → List (List ℕ)
 deep d = (1 ∷ 0 ∷ 0 ∷ 8 ∷ 8 ∷ 1 ∷ 1 ∷ 1 ∷ []) ∷ (2 ∷ d ∷ d ∷ 17 ∷ []) ∷ (replicate 17 (3 ∷ 15 ∷ 15 ∷ []) ++ (5 ∷ 4 ∷ []) ∷ [])
+
+-- those of P-d, P-e and P-j
+abbrev sheetD : List (List ℕ)
+sheetD = (1 ∷ 5 ∷ 0 ∷ 40 ∷ 16 ∷ 1 ∷ 1 ∷ 1 ∷ []) ∷ (2 ∷ 1 ∷ 1 ∷ 1 ∷ []) ∷ (3 ∷ 4 ∷ 4 ∷ []) ∷ (5 ∷ 2 ∷ []) ∷ []
+
+abbrev sheetE : List (List ℕ)
+sheetE = (1 ∷ 1 ∷ 0 ∷ 2 ∷ 1 ∷ 1 ∷ 1 ∷ 1 ∷ []) ∷ (2 ∷ 4 ∷ 1 ∷ 1 ∷ []) ∷ (3 ∷ 0 ∷ 0 ∷ []) ∷ (5 ∷ 2 ∷ []) ∷ []
+
+abbrev sheetJ : List (List ℕ)
+sheetJ = (1 ∷ 4294934528 ∷ 0 ∷ 4294967295 ∷ 1 ∷ 1 ∷ 1 ∷ 1 ∷ []) ∷ (2 ∷ 1 ∷ 1 ∷ 1 ∷ []) ∷ (3 ∷ 15 ∷ 15 ∷ []) ∷ (5 ∷ 2 ∷ []) ∷ []
 
 -- the last row's: components of one resolution and of two
 abbrev uneven : List (List ℕ)
@@ -118,10 +129,9 @@ rows =
     ∷ withA ((4 ∷ 0 ∷ 0 ∷ 0 ∷ 1 ∷ 2 ∷ 1 ∷ []) ∷ (4 ∷ 2 ∷ 0 ∷ 0 ∷ 2 ∷ 2 ∷ 1 ∷ []) ∷ []) (layer 0 0 ++ layer 1 32)
     ((replicate 4 1 ++ 0 ∷ []) ∷ (replicate 4 1 ++ 0 ∷ []) ∷ [])
     -- P-d: x is 5, 16, 32; width 3
-    ∷ accepts ((1 ∷ 5 ∷ 0 ∷ 40 ∷ 16 ∷ 1 ∷ 1 ∷ 1 ∷ []) ∷ (2 ∷ 1 ∷ 1 ∷ 1 ∷ []) ∷ (3 ∷ 4 ∷ 4 ∷ []) ∷ (5 ∷ 2 ∷ []) ∷ [])
-    3 (3 ∷ 1 ∷ []) (at 0 0 0 0 5 0 ∷ at 0 0 0 1 16 0 ∷ at 0 0 0 2 32 0 ∷ []) []
+    ∷ accepts sheetD 3 (3 ∷ 1 ∷ []) (at 0 0 0 0 5 0 ∷ at 0 0 0 1 16 0 ∷ at 0 0 0 2 32 0 ∷ []) []
     -- P-e: width 0
-    ∷ accepts ((1 ∷ 1 ∷ 0 ∷ 2 ∷ 1 ∷ 1 ∷ 1 ∷ 1 ∷ []) ∷ (2 ∷ 4 ∷ 1 ∷ 1 ∷ []) ∷ (3 ∷ 0 ∷ 0 ∷ []) ∷ (5 ∷ 2 ∷ []) ∷ []) 0 (0 ∷ 1 ∷ []) [] []
+    ∷ accepts sheetE 0 (0 ∷ 1 ∷ []) [] []
     -- P-f: tx0 = tx1: accepted, 0 marks, 0 at once
     ∷ accepts ((1 ∷ 7 ∷ 0 ∷ 7 ∷ 16 ∷ 1 ∷ 1 ∷ 1 ∷ []) ∷ (2 ∷ 1 ∷ 1 ∷ 1 ∷ []) ∷ (3 ∷ 4 ∷ 4 ∷ []) ∷ (5 ∷ 2 ∷ []) ∷ []) 0 (0 ∷ 1 ∷ []) [] ((0 ∷ []) ∷ [])
     -- P-g: compno1 above the components: no packets; equal to them: the eight of P-a
@@ -136,8 +146,7 @@ rows =
     ∷ refuses (deep 2) 4
     ∷ accepts (deep 1) 17 (replicate 34 1) (map (λ r. at 0 r 0 0 0 0) (span 0 17)) []
     -- P-j: one packet, then 0
-    ∷ accepts ((1 ∷ 4294934528 ∷ 0 ∷ 4294967295 ∷ 1 ∷ 1 ∷ 1 ∷ 1 ∷ []) ∷ (2 ∷ 1 ∷ 1 ∷ 1 ∷ []) ∷ (3 ∷ 15 ∷ 15 ∷ []) ∷ (5 ∷ 2 ∷ []) ∷ [])
-    1 (1 ∷ 1 ∷ []) (at 0 0 0 0 4294934528 0 ∷ []) ((1 ∷ 0 ∷ []) ∷ [])
+    ∷ accepts sheetJ 1 (1 ∷ 1 ∷ []) (at 0 0 0 0 4294934528 0 ∷ []) ((1 ∷ 0 ∷ []) ∷ [])
     -- P-k: 0, and 0 again
     ∷ withA ((4 ∷ 0 ∷ 0 ∷ 0 ∷ 0 ∷ 2 ∷ 1 ∷ []) ∷ []) [] ((0 ∷ 0 ∷ []) ∷ [])
     -- P-l: prg -1 and 5: 0
@@ -247,6 +256,63 @@ in-play-hold = refl
 -- THEOREM: P-a to P-l hold
 pub rows-hold : all rows ≡ true
 rows-hold = by-in-play rows in-play-hold
+
+-- WHERE PRECINCTS ARE (02, P2). A sheet; component, resolution and precinct; then what the call answers to setup's state and table: its number, and x0, y0, x1, y1
+pub record Spot : Type 0 where
+  pub sheet : List (List ℕ)
+  pub precinct : ℕ × ℕ × ℕ
+  pub number : ℤ
+  pub area : List ℕ
+
+abbrev spot : List (List ℕ) → ℕ → ℕ → ℕ → List ℕ → Spot
+spot sheet c r k area = record { sheet = sheet; precinct = (c, r, k); number = pos 0; area = area }
+
+abbrev nowhere : List (List ℕ) → ℕ → ℕ → ℕ → ℕ → Spot
+nowhere sheet c r k n = record { sheet = sheet; precinct = (c, r, k); number = refusal n; area = [] }
+
+unfoldable pub spots : List Spot
+spots =
+    -- A: two precincts side by side, in both resolutions
+    spot sheetA 0 0 0 (0 ∷ 0 ∷ 16 ∷ 16 ∷ [])
+    ∷ spot sheetA 0 0 1 (16 ∷ 0 ∷ 32 ∷ 16 ∷ [])
+    ∷ spot sheetA 0 1 0 (0 ∷ 0 ∷ 32 ∷ 32 ∷ [])
+    ∷ spot sheetA 0 1 1 (32 ∷ 0 ∷ 64 ∷ 32 ∷ [])
+    -- and no other precinct, resolution or component
+    ∷ nowhere sheetA 0 1 2 14
+    ∷ nowhere sheetA 0 2 0 14
+    ∷ nowhere sheetA 1 0 0 14
+    -- P-d: the tile starts inside a cell and ends inside one
+    ∷ spot sheetD 0 0 0 (5 ∷ 0 ∷ 16 ∷ 16 ∷ [])
+    ∷ spot sheetD 0 0 1 (16 ∷ 0 ∷ 32 ∷ 16 ∷ [])
+    ∷ spot sheetD 0 0 2 (32 ∷ 0 ∷ 40 ∷ 16 ∷ [])
+    -- P-j: the cell ends at 2^32
+    ∷ spot sheetJ 0 0 0 (4294934528 ∷ 0 ∷ 4294967295 ∷ 1 ∷ [])
+    -- P-e: a resolution without precincts has none
+    ∷ nowhere sheetE 0 0 0 14
+    -- the state of a refused setup is not sound
+    ∷ nowhere [] 0 0 0 9
+    ∷ []
+
+abbrev areaWords : Option Area → List ℕ
+areaWords (some a) = a .x0 ∷ a .y0 ∷ a .x1 ∷ a .y1 ∷ []
+areaWords none = []
+
+unfoldable pub spotHolds : Spot → Bool
+spotHolds q =
+    let b : List ℕ = sheetBytes (q .sheet) in
+    let st : State = reported (sheetIn b) in
+    let u : Setup = setupOf b (replicate (tableBytes st) 255) (replicate (needed st) 255) in
+    let said = rectangleOf (u .said .state) (u .table) (q .precinct .0) (q .precinct .1) (q .precinct .2) in
+    sameNumber (said .number) (q .number) && sameBy eqb (areaWords (said .area)) (q .area)
+
+abbrev allSpots : List Spot → Bool
+allSpots [] = true
+allSpots (q ∷ qs) = spotHolds q && allSpots qs
+
+-- THEOREM: they are there
+pub spots-hold : allSpots spots ≡ true
+unfolding computed spots spotHolds setupOf rectangleOf rectangle cellFrom cellTo sheetSound componentsSound progressionsSound tableSound entrySound reportsSound
+spots-hold = refl
 
 -- THE TEXT. A line of one-digit numbers
 abbrev pub shown : List ℕ → List ℕ

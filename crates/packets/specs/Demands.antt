@@ -25,8 +25,8 @@ use Rattle.packets.specs.Sheet.{wd, componentRecord, resolutionRecord}
 use Rattle.packets.specs.Tile.{needed, indexOf}
 use Rattle.packets.specs.Table.{entryWord}
 use Rattle.packets.specs.Sound.{sound}
-use Rattle.packets.specs.Refusals.{setup-keeps, open-keeps, step-keeps, run-keeps, bounds-keeps}
-use Rattle.packets.specs.Calls.{Setup, setupOf, openOf, stepOf, wholeRunOf, recordsOf}
+use Rattle.packets.specs.Refusals.{setup-keeps, open-keeps, step-keeps, rectangle-keeps, run-keeps, bounds-keeps}
+use Rattle.packets.specs.Calls.{Setup, setupOf, openOf, rectangleOf, stepOf, wholeRunOf, recordsOf}
 use Rattle.packets.specs.Bounds.{boundsOf}
 use Rattle.packets.specs.Host.{Turn, mostSteps, callTurn, Hosted, hostCalls, answered}
 use Rattle.packets.specs.Wanted.{sheetOf, standardOf, standardAll, samePacket, firsts}
@@ -53,6 +53,11 @@ demand-1-open st table marks = open-keeps st table marks
 pub demand-1-step : (st : State) (table marks : List ℕ) (c : Cursor) (n : ℕ) → stepOf st table marks c .said .number ≡ negsuc n
     → stepOf st table marks c ≡ record { said = record { number = negsuc n; packet = none; cursor = c }; marks = marks }
 demand-1-step st table marks = step-keeps st table marks
+
+-- the rectangle of a precinct, a call that is lent nothing that it could change
+pub demand-1-rectangle : (st : State) (table : List ℕ) (c r k n : ℕ) → rectangleOf st table c r k .number ≡ negsuc n
+    → rectangleOf st table c r k ≡ record { number = negsuc n; area = none }
+demand-1-rectangle st table c r k = rectangle-keeps st table c r k
 
 -- the whole run
 pub demand-1-whole-run : (sheet table marks output : List ℕ) (n : ℕ) → wholeRunOf sheet table marks output .number ≡ negsuc n

@@ -36,6 +36,7 @@ pub mod SetupSound
 pub mod Meaning
 pub mod Entered
 pub mod Steps
+pub mod Rectangles
 pub mod Turns
 pub mod Run
 pub mod WholeRun

@@ -1,6 +1,6 @@
 -- Every call answers a number of 0 or more, or else keeps all that was lent and answers only its refusal. Assumes nothing.
 use mathlib.Core.Path.{_≡_, refl, sym, ap, _∙_}
-use mathlib.Core.Bool.{Bool, true, false, cond}
+use mathlib.Core.Bool.{Bool, true, false, cond, _&&_}
 use mathlib.Core.List.{List}
 use mathlib.Core.Option.{some, none}
 use Prim.Native.Nat.{ℕ}
@@ -14,10 +14,11 @@ use Rattle.geometry.specs.declared.tile.Area.{Area}
 use Rattle.geometry.specs.declared.tile.Grid.{Grid}
 use Rattle.words.specs.Words.{wordsBytes, over}
 use Rattle.types.specs.State.{emptyState, freshCursor}
-use Rattle.packets.specs.Tile.{indexOf}
-use Rattle.packets.specs.Sound.{stateSound, positionsFor, sound}
-use Rattle.types.specs.Answers.{OpenSaid}
-use Rattle.packets.specs.Calls.{refusal, Setup, setupVerdict, accepted, setupOf, openOf, after, Step, stepBy, stepOf, Run, runVerdict, listed, ranOver, wholeRunOf}
+use Rattle.packets.specs.Tile.{precincts, rectangle, indexOf}
+use Rattle.packets.specs.Table.{sheetAt}
+use Rattle.packets.specs.Sound.{sheetSound, stateSound, positionsFor, sound}
+use Rattle.types.specs.Answers.{OpenSaid, RectangleSaid}
+use Rattle.packets.specs.Calls.{refusal, Setup, setupVerdict, accepted, setupOf, openOf, rectangleOf, after, Step, stepBy, stepOf, Run, runVerdict, listed, ranOver, wholeRunOf}
 use Rattle.packets.specs.Bounds.{Bounds, writtenBy, boundsOf}
 use Rattle.types.specs.declared.state.State.{State}
 use Rattle.types.specs.declared.cursor.Position.{Position}
@@ -55,6 +56,9 @@ openNumber o = o .number
 
 abbrev stepNumber : Step → ℤ
 stepNumber u = u .said .number
+
+abbrev rectangleNumber : RectangleSaid → ℤ
+rectangleNumber q = q .number
 
 abbrev runNumber : Run → ℤ
 runNumber r = r .number
@@ -108,6 +112,18 @@ module _ (st : State) (table marks : List ℕ) where
     step-keeps =
         let a : Answer Position = seek (indexOf st) marks (after (c .place) (positionsFor st table (c .progression))) in
         or-refused stepNumber stepKept (λ z. refl) (sound st table marks c) (stepBy st marks (c .progression) a) (refusal 9) (step-found a)
+
+module _ (st : State) (table : List ℕ) where
+  abbrev rectangleKept : ℤ → RectangleSaid
+  rectangleKept z = record { number = z; area = none }
+
+  pub rectangle-keeps : (c r k : ℕ) → Keeps rectangleNumber rectangleKept (rectangleOf st table c r k)
+  unfolding rectangleOf
+  rectangle-keeps c r k =
+      let there = ltb c (st .components) && ltb k (precincts (sheetAt st table) c r) in
+      let a : RectangleSaid = record { number = pos 0; area = some (rectangle (sheetAt st table) c r k) } in
+      or-refused rectangleNumber rectangleKept (λ z. refl) (sheetSound st table) (cond there a (rectangleKept (refusal 14))) (refusal 9)
+      (or-refused rectangleNumber rectangleKept (λ z. refl) there a (refusal 14) (found rectangleNumber rectangleKept a 0 refl))
 
 module _ (output : List ℕ) where
   abbrev boundsKept : ℤ → Bounds

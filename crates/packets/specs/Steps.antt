@@ -1,21 +1,22 @@
 -- A step from a sound cursor searches its progression and answers a sound cursor; an ended cursor answers 0 for good; a refusal changes nothing. Assumes nothing.
 use mathlib.Core.Path.{_≡_, refl, sym, ap, _∙_}
 use mathlib.Core.Bool.{true, false}
-use mathlib.Core.List.{List}
+use mathlib.Core.List.{List, List·Memᴰ as In}
 use mathlib.Core.Option.{some, none}
 use Prim.Native.Nat.{ℕ, _<_}
+use native.Mathlib.Omega.{arith}
 use lib.ListN.{length}
 use lib.Dec.{ltb}
 use lib.IntN.{pos}
 use borrow.Author.Tests.{lt-ltb}
-use Rattle.laws.specs.Cases.{and-true, and-both}
+use Rattle.laws.specs.Cases.{split, and-true, and-both}
 use Rattle.laws.specs.Marks.{mark-length}
 use Rattle.laws.specs.Runs.{Answer, Packet, Ended, Cursor, fresh, at, ended, seek, mark, after as behindCursor, found-in}
 use Rattle.types.specs.State.{freshCursor, endedCursor}
 use Rattle.packets.specs.Tile.{indexOf}
 use Rattle.packets.specs.Sound.{stateSound, placeSound, positionsFor, cursorSound, sound}
 use Rattle.packets.specs.Same.{same}
-use Rattle.packets.specs.Calls.{after, refusal, stepBy, stepOf, openOf}
+use Rattle.packets.specs.Calls.{after, refusal, Step, stepBy, stepOf, openOf}
 use Rattle.packets.specs.Inside.{in-is}
 use Rattle.types.specs.declared.state.State.{State}
 use Rattle.types.specs.declared.cursor.Position.{Position}
@@ -72,6 +73,24 @@ module _ (st : State) (table marks : List ℕ) (c : cursor.Cursor) where
   unfolding cursorSound
   names-progression h = and-true (ltb (c .progression) (st .progressions)) (placeSound (c .place) ps) (sound-parts h .1) .0
 
+  -- what is found is a position of its progression
+  found-listed : (p : Position) → found ≡ Packet p → In p ps
+  found-listed p e = found-in same (indexOf st) ps marks (asCursor (c .place)) p (ap (seek (indexOf st) marks) (sym (after-as (c .place) ps)) ∙ e)
+
+  -- and so is the packet that a step answers
+  pub step-listed : (p : Position) → stepOf st table marks c .said .packet ≡ some p → In p ps
+  step-listed p e =
+      split (sound st table marks c)
+      (λ h. by found refl (ap (λ (u : Step). u .said .packet) (sym (step-searches h)) ∙ e))
+      (λ h. absurd (some-none (sym (ap (λ (u : Step). u .said .packet) (sym (step-refused h)) ∙ e))))
+    where
+      some-none : {q : Position} → some q ≡ none → ⊥
+      some-none z = let n : _≡_ {A = ℕ} 0 1 = cc in omega arith
+
+      by : (a : Answer Position) → found ≡ a → stepBy st marks (c .progression) a .said .packet ≡ some p → In p ps
+      by (Packet q) f g = let same : q ≡ p = cc in found-listed p (f ∙ ap Packet same)
+      by Ended f g = absurd (some-none (sym g))
+
   -- A STEP FROM A SOUND CURSOR ANSWERS A SOUND CURSOR, over the marks that it leaves
   pub step-sound : sound st table marks c ≡ true → sound st table (stepOf st table marks c .marks) (stepOf st table marks c .said .cursor) ≡ true
   step-sound h = rw (step-searches h) (by found refl)
@@ -82,7 +101,7 @@ module _ (st : State) (table marks : List ℕ) (c : cursor.Cursor) where
           sound-made st table (mark (indexOf st) marks p) (c .progression) (place.At p)
           (sound-length st table (mark (indexOf st) marks p) marks (mark-length marks (indexOf st p)) ∙ sound-parts h .0)
           (names-progression h)
-          (in-is p ps (found-in same (indexOf st) ps marks (asCursor (c .place)) p (ap (seek (indexOf st) marks) (sym (after-as (c .place) ps)) ∙ e)))
+          (in-is p ps (found-listed p e))
       by Ended e = sound-made st table marks (c .progression) place.Ended (sound-parts h .0) (names-progression h) refl
 
 -- opening gives a fresh cursor, which is sound

@@ -1,11 +1,12 @@
 -- The tile as a sheet describes it: the bounds and precincts of every component and resolution (01, 'Geometry'; T.800 B.3, B.5, B.6), what setup reports,
 -- strides, marks needed, and the mark of a position.
-use Prim.Native.Nat.{ℕ, _+_, _-_, _*_}
+use Prim.Native.Nat.{ℕ, _+_, _-_, _*_, _/_, _%_}
 use mathlib.Core.Bool.{cond}
 use lib.ListN.{getD}
 use lib.Dec.{ltb, leb}
 use Rattle.laws.specs.Below.{maxBelow, minBelow, sumBelow}
-use Rattle.geometry.specs.Line.{Line, step, count}
+use Rattle.geometry.specs.Line.{Line, step, count, cellLow, cellHigh}
+use Rattle.geometry.specs.declared.tile.Area.{Area}
 use Rattle.types.specs.declared.state.Reports.{Reports}
 use Rattle.types.specs.declared.state.State.{State}
 use Rattle.types.specs.declared.cursor.Position.{Position}
@@ -47,6 +48,18 @@ height s c r = count (lineY s c r)
 -- T.800 B.6: numprecincts; none for a resolution that the component has not got
 abbrev pub precincts : Sheet → ℕ → ℕ → ℕ
 precincts s c r = cond (ltb r (resOf (s .st) c)) (width s c r * height s c r) 0
+
+-- T.800 B.6: precinct k of a resolution, in raster order: the cell of its column, k mod numprecinctswide, and of its row, both cut to the resolution
+unfoldable pub rectangle : Sheet → ℕ → ℕ → ℕ → Area
+rectangle s c r k =
+    let column = k % width s c r in
+    let row = k / width s c r in
+    record {
+      x0 = cellLow (lineX s c r) column;
+      y0 = cellLow (lineY s c r) row;
+      x1 = cellHigh (lineX s c r) column;
+      y1 = cellHigh (lineY s c r) row;
+    }
 
 -- 01: the largest precinct count and the largest number of resolutions
 unfoldable pub maxPrec : Sheet → ℕ

@@ -1,6 +1,7 @@
--- Document 01's number and values for every case of every answer ('Numbers that come back').
+-- Document 01's number and values for every case of every answer ('Numbers that come back'), and those of 02.
 use mathlib.Core.Option.{Option, some, none}
 use lib.IntN.{ℤ, pos, negsuc}
+use Rattle.geometry.specs.declared.tile.Area.{Area}
 use Rattle.types.specs.declared.state.State.{State}
 use Rattle.types.specs.declared.cursor.Position.{Position}
 use Rattle.types.specs.declared.cursor.Cursor.{Cursor}
@@ -11,6 +12,8 @@ use Rattle.types.specs.declared.answer.Opened.{Opened}
 use Rattle.types.specs.declared.answer.Opened.the-variants as opened
 use Rattle.types.specs.declared.answer.Stepped.{Stepped}
 use Rattle.types.specs.declared.answer.Stepped.the-variants as stepped
+use Rattle.types.specs.declared.answer.Located.{Located}
+use Rattle.types.specs.declared.answer.Located.the-variants as located
 
 -- setup and whole run: -1 to -8
 abbrev pub numberOf : Verdict → ℤ
@@ -52,3 +55,13 @@ abbrev pub ofStepped : Stepped → StepSaid
 ofStepped (stepped.Packet p c) = record { number = pos 1; packet = some p; cursor = c }
 ofStepped (stepped.Ended c) = record { number = pos 0; packet = none; cursor = c }
 ofStepped (stepped.Unsound c) = record { number = negsuc 8; packet = none; cursor = c }
+
+-- 02, P2: the rectangle of a precinct on its resolution, -9 or -14
+pub record RectangleSaid : Type 0 where
+  pub number : ℤ
+  pub area : Option Area
+
+abbrev pub ofLocated : Located → RectangleSaid
+ofLocated (located.Rectangle a) = record { number = pos 0; area = some a }
+ofLocated located.Unsound = record { number = negsuc 8; area = none }
+ofLocated located.NoSuch = record { number = negsuc 13; area = none }

@@ -2,6 +2,7 @@
 use crate::cursor::Cursor;
 use crate::cursor::Position;
 use crate::state::State;
+use geometry::tile::Area;
 ghost use mathlib.Core.Path.{_≡_};
 ghost use Rattle.types.specs.Answers.{numberOf};
 
@@ -63,4 +64,14 @@ pub enum Stepped {
     Ended(Cursor),
     // -9: the cursor as given
     Unsound(Cursor),
+}
+
+// Where a precinct is (02, P2).
+pub enum Located {
+    // 0: its rectangle on its resolution
+    Rectangle(Area),
+    // -9
+    Unsound,
+    // -14
+    NoSuch,
 }

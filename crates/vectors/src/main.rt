@@ -8,6 +8,7 @@ mod file;
 mod lent;
 mod limits;
 mod numbers;
+mod rectangles;
 mod same;
 mod setups;
 mod steps;
@@ -35,12 +36,12 @@ fn right(kind: u32, rest: &[u8]) -> bool {
     }
 }
 
-// The cases of a record: many of kind 5, else one.
+// The cases of a record: many of kinds 5 and 6, else one.
 fn replayed(kind: u32, rest: &[u8], so_far: Tally) -> Tally {
-    if kind == 5 {
-        steps::all(rest, so_far)
-    } else {
-        so_far.with(right(kind, rest))
+    match kind {
+        5 => steps::all(rest, so_far),
+        6 => rectangles::all(rest, so_far),
+        _ => so_far.with(right(kind, rest)),
     }
 }
 
@@ -91,5 +92,6 @@ fn main() {
     replay(b"rust", 3, b"arithmetic");
     replay(b"model", 4, b"limits");
     replay(b"model", 5, b"steps");
+    replay(b"model", 6, b"rectangles");
     dead_feed::dead_feed();
 }

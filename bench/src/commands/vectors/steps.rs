@@ -3,7 +3,7 @@
 
 use oracle::sheet::Sheet;
 
-use super::{bytes, padded, sample};
+use super::{bytes, lent_table, padded, sample};
 use crate::commands::show::from_words;
 use crate::model::{self, Cursor, Place, Position, Step, Steps};
 use crate::random::Random;
@@ -175,10 +175,7 @@ fn case(
 }
 
 fn altered(steps: &Steps, marks: &[u8], alteration: Alteration) -> Step {
-    let mut table = steps.table.clone();
-    table.resize(table.len() + 1, 0);
-    table[alteration.place] ^= alteration.bits;
-    table.truncate(alteration.table);
+    let table = lent_table(&steps.table, alteration.table, alteration.place, alteration.bits);
     let mut lent = marks.to_vec();
     lent.resize(alteration.marks, 0);
     let fresh = Cursor { progression: 0, place: Place::Fresh };
