@@ -94,12 +94,7 @@ impl Resolution {
 pub fn step(d: u32, level: u32, pd: u32) -> u32
     ensures { λ r. ⌜ r ≡ fitted (d * 2 ^ (pd + level)) ⌝ }
 {
-    if pd < 32 {
-        if level < 32 {
-            return power::raised(d, pd + level);
-        }
-    }
-    0
+    power::raised(power::raised(d, pd), level)
 }
 
 // Point x is a multiple of the step. One that does not fit has no multiple among the points but 0.

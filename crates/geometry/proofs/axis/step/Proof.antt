@@ -1,26 +1,19 @@
--- `step`: by 32 or more none fits. Assumes nothing.
-use mathlib.Core.Path.{sym}
-use Prim.Native.Nat.{_+_}
-use Rattle.geometry.specs.Fitted.{fitted-far}
-use native.Mathlib.Omega.{arith}
+-- `step`: by the one power and then by the other. Assumes nothing.
+use Rattle.geometry.specs.Fitted.{fitted-twice}
 use borrow.Author.Needs.{needs}
 use Rattle.geometry.proofs.axis.step.Statement.{statement}
 use Rattle.geometry.proofs.axis.step.Tie as tie
 
-add-raised : tie.Need-add-raised
-add-raised c = search needs
-
 raised-requires : tie.Need-raised-requires
 raised-requires c κs = search needs
 
+raised-requires-2 : tie.Need-raised-requires-2
+raised-requires-2 c κs = search needs
+
 returns : tie.Need-returns
-returns c = search needs
-
-returns-2 : tie.Need-returns-2
-returns-2 c = let a = c .before .before .args in sym (fitted-far (a .d) (a .pd + a .level) (omega arith))
-
-returns-3 : tie.Need-returns-3
-returns-3 c = let a = c .before .args in sym (fitted-far (a .d) (a .pd + a .level) (omega arith))
+returns c =
+    let a = c .before .before .args in
+    rw (c .raised2 .ensures, c .before .raised .ensures) (fitted-twice (a .d) (a .pd) (a .level))
 
 pub step-spec : {M : Type 1} → statement M
-step-spec = tie.close (tie.spec add-raised raised-requires returns returns-2 returns-3)
+step-spec = tie.close (tie.spec raised-requires raised-requires-2 returns)
