@@ -128,6 +128,13 @@ mod tests {
     }
 
     #[test]
+    fn a_component_out_of_range_is_not_walked() {
+        let alpha = format!("2 1 1 33, {}", "3 15 15,".repeat(33));
+        assert!(inside(&format!("1 0 0 8 4 1 2 1, 2 1 1 2, 3 1 1, 3 2 2, {alpha} 4 4 0 0 1 33 1")));
+        assert!(inside(&format!("1 0 0 8 4 1 2 1, {alpha} 2 1 1 2, 3 1 1, 3 2 2, 4 4 0 1 1 33 2")));
+    }
+
+    #[test]
     fn a_rounded_end_of_2_32_is_outside_in_any_order() {
         assert!(!inside("1 0 0 T 0 1 1 1, 2 1 1 1, 3 15 15, 5 0"));
         assert!(inside("1 0 0 T 0 1 1 1, 2 1 1 1, 3, 5 0"));

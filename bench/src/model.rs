@@ -59,7 +59,7 @@ pub fn accept(bytes: &[u8]) -> Result<(Sheet, Tile), i32> {
 /// The geometry of a sheet whose fields are in range, or -4 or -5.
 pub fn judge(sheet: &Sheet) -> Result<Tile, i32> {
     let tile = Tile::of(sheet);
-    if !sheet.progressions.orders().into_iter().all(|prg| grid::is_agreed(&tile, prg)) {
+    if !ranges(sheet, &tile).iter().all(|range| grid::is_agreed(&tile, range)) {
         return Err(-4);
     }
     if tile.marks_needed() > MOST_MARKS {

@@ -14,6 +14,10 @@ fn sheets() -> Vec<(&'static str, String)> {
     let exponents_15 = |prg: u32, d: u32, resolutions: usize| {
         format!("1 0 0 1 1 1 1 1, 2 {d} {d} {resolutions}, {} 5 {prg}", "3 15 15,".repeat(resolutions))
     };
+    let beside = |compno1: u32| {
+        let resolutions = "3 15 15,".repeat(18);
+        format!("1 0 0 1 1 1 2 1, 2 1 1 1, 3, 2 1 1 18, {resolutions} 4 4 0 0 1 33 {compno1}")
+    };
     let onward = |prg: u32| format!("1 T-1 0 T 2 1 1 1, 2 1 1 1, 3 1, 5 {prg}");
     let upward = |prg: u32| format!("1 0 T-1 0 T 1 1 1, 2 1 1 1, 3 1 1, 5 {prg}");
     let crossing = |prg: u32| format!("1 0 0 4 1 1 2 1, 2 2 1 1, 3, 2 3 1 1, 3, 5 {prg}");
@@ -41,6 +45,8 @@ fn sheets() -> Vec<(&'static str, String)> {
         ("a step of 2^32, order 4", exponents_15(4, 2, 17)),
         ("a step of 2^32 by its exponents, order 2", exponents_15(2, 1, 18)),
         ("a step of 2^32 by its exponents, order 4", exponents_15(4, 1, 18)),
+        ("a step of 2^32 in a component that order 4 does not go by", beside(1)),
+        ("the same with the component in range", beside(2)),
     ]
 }
 

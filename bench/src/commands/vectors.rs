@@ -26,6 +26,7 @@ pub fn run(arguments: &mut Arguments) -> Result<(), String> {
             (rust::SHEET, rust::sheets()?),
             (rust::TILE_BOUNDS, rust::tile_bounds()),
             (rust::ARITHMETIC, rust::arithmetic()),
+            (rust::SHEET, rust::sheets_beside_wide()?),
         ],
     )?;
     write(
@@ -34,6 +35,8 @@ pub fn run(arguments: &mut Arguments) -> Result<(), String> {
             (limits::KIND, limits::cases()),
             (steps::KIND, steps::cases()),
             (rectangles::KIND, rectangles::cases()),
+            (limits::KIND, limits::cases_beside_wide()),
+            (steps::KIND, steps::cases_beside_wide()),
         ],
     )
 }

@@ -23,6 +23,32 @@ pub fn sheets() -> Vec<Vec<u8>> {
     sheets
 }
 
+/// A plane with steps of more than 32 bits beside one without, and ranges of components that reach it or not, or
+/// that there are not.
+pub fn sheets_beside_wide() -> Vec<Vec<u8>> {
+    let wide = format!("2 1 1 33, {}", "3 15 15,".repeat(33));
+    let luma = "2 1 1 2, 3 1 1, 3 2 2,";
+    let mut sheets = Vec::new();
+    for components in [format!("{luma} {wide}"), format!("{wide} {luma}")] {
+        for prg in [2, 3, 4] {
+            for [compno0, compno1] in [[0, 1], [1, 2], [0, 2], [0, 0], [1, 0], [1, 1], [2, 2], [0, 3], [1, 3]]
+            {
+                sheets.push(format!("1 0 0 8 4 1 2 1, {components} 4 {prg} 0 {compno0} 1 33 {compno1}"));
+            }
+        }
+        sheets.push(format!("1 0 0 8 4 1 2 1, {components} 5 4"));
+        // Two progressions, of which one may be refused; and one that asks nothing.
+        for changes in [
+            "4 4 0 0 1 33 1, 4 4 0 1 1 33 2",
+            "4 4 0 0 1 33 1, 4 4 0 0 1 2 1",
+            "4 0 0 0 1 33 2, 4 4 0 1 1 33 2",
+        ] {
+            sheets.push(format!("1 0 0 8 4 1 2 2, {components} {changes}"));
+        }
+    }
+    sheets.iter().map(|words| from_words(words).unwrap()).collect()
+}
+
 fn records(words: &str) -> Vec<Record> {
     let bytes = from_words(words).unwrap();
     let word = |bytes: &[u8]| u32::from_be_bytes(bytes.try_into().unwrap());

@@ -14,6 +14,7 @@ pub fn any(random: &mut Random) -> Sheet {
     match random.below(32) {
         0 => at_marks_limit(random),
         1 | 2 => within_ranges(random),
+        3..=5 => beside_wide(random),
         _ => usual(random),
     }
 }
@@ -46,6 +47,34 @@ pub fn usual(random: &mut Random) -> Sheet {
     let resolutions: Vec<Resolution> = tile.resolutions().copied().collect();
     (sheet.tx0, sheet.tx1) = extent(random, &resolutions, |resolution| &resolution.x);
     (sheet.ty0, sheet.ty1) = extent(random, &resolutions, |resolution| &resolution.y);
+    settle(random, sheet, VISITS)
+}
+
+/// A component with steps of more than 32 bits among others, and progressions of order 4 that mostly keep to one
+/// side of it: those are accepted (02, P5).
+pub fn beside_wide(random: &mut Random) -> Sheet {
+    let mut sheet = usual(random);
+    sheet.components.truncate(15);
+    let at = random.between(0, sheet.components.len() as u32);
+    let count = random.one_of(&[33, 33, 33, 25, 18]);
+    let (dx, dy) = (random.one_of(&[1, 1, 2, 3]), random.one_of(&[1, 1, 2, 3]));
+    sheet.components.insert(at as usize, Component { dx, dy, resolutions: vec![(15, 15); count] });
+    let last = sheet.components.len() as u32;
+    let ranges = (0..random.between(1, 3))
+        .map(|_| {
+            let anything = range(random, sheet.layers, &sheet.components);
+            if random.once_in(8) {
+                return Range { prg: order(random), ..anything };
+            }
+            let after = at == 0 || at + 1 < last && random.once_in(2);
+            let (low, high) = if after { (at + 1, last) } else { (0, at) };
+            let compno0 = random.between(low, high - 1);
+            let empty = random.once_in(8);
+            let compno1 = random.between(compno0 + !empty as u32, high);
+            Range { prg: random.one_of(&[4, 4, 4, 0]), compno0, compno1, ..anything }
+        })
+        .collect();
+    sheet.progressions = Progressions::Ranges(ranges);
     settle(random, sheet, VISITS)
 }
 

@@ -1,19 +1,30 @@
-//! 01, 'Ranges and orders': the agreed grid, -4 otherwise.
+//! 01, 'Ranges and orders', and 02, P5: the agreed grid, -4 otherwise.
 
-use super::geometry::Tile;
+use oracle::sheet::Range;
 
-/// Whether a progression of this order has an agreed grid.
-pub fn is_agreed(tile: &Tile, prg: i32) -> bool {
-    let steps_x: Vec<u64> = tile.resolutions().map(|resolution| resolution.x.step).collect();
-    let steps_y: Vec<u64> = tile.resolutions().map(|resolution| resolution.y.step).collect();
-    let fit = |steps: &[u64]| steps.iter().all(|&step| step <= 4_294_967_295);
-    let divided = |steps: &[u64]| {
-        let smallest = steps.iter().min().unwrap();
-        steps.iter().all(|step| step % smallest == 0)
-    };
-    match prg {
-        2 | 3 => fit(&steps_x) && fit(&steps_y) && divided(&steps_x) && divided(&steps_y),
-        4 => fit(&steps_x) && fit(&steps_y),
+use super::geometry::{Resolution, Tile};
+
+/// Whether a progression has an agreed grid.
+pub fn is_agreed(tile: &Tile, range: &Range) -> bool {
+    let components = tile.components.len() as u32;
+    match range.prg {
+        2 | 3 => tile.resolutions().all(fits) && is_divided(tile),
+        // One that has no positions for its components asks of none.
+        4 if range.compno0 >= components || range.compno1 > components => true,
+        4 => (range.compno0..range.compno1).all(|compno| tile.components[compno as usize].iter().all(fits)),
         _ => true,
     }
+}
+
+/// Whether the steps of a resolution are numbers of 32 bits.
+fn fits(resolution: &Resolution) -> bool {
+    resolution.x.step <= 4_294_967_295 && resolution.y.step <= 4_294_967_295
+}
+
+/// Whether the smallest step of all divides them all, on each axis.
+fn is_divided(tile: &Tile) -> bool {
+    let smallest_x = tile.resolutions().map(|resolution| resolution.x.step).min().unwrap();
+    let smallest_y = tile.resolutions().map(|resolution| resolution.y.step).min().unwrap();
+    tile.resolutions()
+        .all(|resolution| resolution.x.step % smallest_x == 0 && resolution.y.step % smallest_y == 0)
 }

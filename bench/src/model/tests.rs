@@ -74,6 +74,20 @@ fn p_h_and_p_i_test_the_grid() {
 }
 
 #[test]
+fn order_4_asks_of_its_components_alone() {
+    let alpha = |changes: &str| {
+        let resolutions = "3 15 15,".repeat(33);
+        format!("1 0 0 8 4 1 2 1, 2 1 1 2, 3 1 1, 3 2 2, 2 1 1 33, {resolutions} {changes}")
+    };
+    let luma = [[0, 0, 0, 0], [0, 1, 0, 0], [0, 0, 0, 1], [0, 1, 0, 1]];
+    assert_eq!(listed(&alpha("4 4 0 0 1 33 1")), luma);
+    assert!(listed(&alpha("4 4 0 0 1 33 3")).is_empty() && listed(&alpha("4 4 0 1 1 33 1")).is_empty());
+    for refused in ["4 4 0 0 1 33 2", "4 4 0 1 1 33 2", "5 4", "4 2 0 0 1 33 1", "4 3 0 2 1 33 1"] {
+        assert_eq!(ask(&alpha(refused)).err(), Some(-4));
+    }
+}
+
+#[test]
 fn p_j_ends_at_the_last_coordinate() {
     assert_eq!(listed("1 4294934528 0 T 1 1 1 1, 2 1 1 1, 3 15 15, 5 2"), [[0, 0, 0, 0]]);
 }

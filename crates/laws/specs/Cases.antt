@@ -1,6 +1,6 @@
 -- Cases of a test, of an order, of a conjunction and of a choice. Assumes nothing.
 use mathlib.Core.Path.{_≡_, refl, sym}
-use mathlib.Core.Bool.{Bool, true, false, cond, not, _&&_}
+use mathlib.Core.Bool.{Bool, true, false, cond, not, _&&_, _||_}
 use mathlib.Core.Logic.{_⊎_, inl, inr, ⊎-elim}
 use Prim.Native.Nat.{ℕ, zero, suc, _≤_, _<_, zero-le, suc-le-suc}
 use native.Mathlib.Omega.{arith}
@@ -35,6 +35,11 @@ not-true false e = refl
 pub not-false : (a : Bool) → not a ≡ false → a ≡ true
 not-false true e = refl
 not-false false e = sym e
+
+-- a test that is asked only where another is passed
+pub asked-same : (a b c : Bool) → (a ≡ true → b ≡ c) → (not a || b) ≡ (not a || c)
+asked-same true b c h = h refl
+asked-same false b c h = refl
 
 -- a choice that gives 0 has passed its test, where failing it gives another number
 pub cond-zero : (t : Bool) (a n : ℕ) → (t ≡ false → n ≡ 0 → ⊥) → cond t a n ≡ 0 → (t ≡ true) × (a ≡ 0)

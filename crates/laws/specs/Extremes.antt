@@ -1,4 +1,4 @@
--- Tests that are one; largest and smallest numbers from other starts, and among the multiples by powers of two. Assumes nothing.
+-- Tests that are one; smallest numbers from other starts, and among the multiples by powers of two. Assumes nothing.
 use mathlib.Core.Path.{_≡_, refl, sym, ap, _∙_}
 use mathlib.Core.Bool.{Bool, true, false, _&&_, false≢true}
 use mathlib.Core.Logic.{⊎-elim}
@@ -7,7 +7,8 @@ use native.Mathlib.Nat.{mul-assoc, mul-comm, mul-mod-left, mul-lt-mul-of-pos-lef
 use native.Mathlib.Omega.{arith}
 use lib.Pow.{pow-lt, pow-add}
 use Rattle.laws.specs.Cases.{le-or-lt, and-false}
-use Rattle.laws.specs.Below.{allBelow, maxBelow, max-more, minBelow, min-at}
+use Rattle.laws.specs.Below.{allBelow, all-at, minBelow, min-at}
+use Rattle.laws.specs.Pointwise.{all-true}
 use Rattle.laws.specs.Least.{min-from}
 
 -- tests that are true together are one
@@ -27,12 +28,12 @@ unfolding allBelow
 all-and f g zero = refl
 all-and f g (suc n) = rw (all-and f g n) (swapped (allBelow f n) (allBelow g n) (f n) (g n))
 
--- a function that is 0 from n on has its largest below n
-pub max-beyond : (f : ℕ → ℕ) (n : ℕ) → ((k : ℕ) → n ≤ k → f k ≡ 0) → (d : ℕ) → maxBelow f (n + d) ≡ maxBelow f n
-max-beyond f n h zero = ap (maxBelow f) (omega arith)
-max-beyond f n h (suc d) =
-    let at : n + suc d ≡ n + d + 1 = omega arith in
-    rw (at, max-more f (n + d), h (n + d) (omega arith), max-beyond f n h d) (omega arith)
+-- a test that every number from m on passes is one of those below m
+pub all-up-to : (f : ℕ → Bool) (m : ℕ) → ((k : ℕ) → m ≤ k → f k ≡ true) → (n : ℕ) → allBelow f (min n m) ≡ allBelow f n
+all-up-to f m h n =
+    same-tests _ _
+    (λ t. all-true f n (λ i l. ⊎-elim (h i) (λ (k : i < m). all-at f (min n m) t i (omega arith)) (le-or-lt m i)))
+    (λ t. all-true f (min n m) (λ i l. all-at f n t i (omega arith)))
 
 -- the smallest does not depend on where it starts, if that is no smaller than the first
 pub min-restart : (a b : ℕ) (f : ℕ → ℕ) (n : ℕ) → 0 < n → f 0 ≤ a → a ≤ b → minBelow a f n ≡ minBelow b f n

@@ -142,17 +142,17 @@ module _ (s : Sheet) (h : Good s) (g : Range) (good : componentsGood (s .st) g �
       (λ p q k. (source-divides s g good (stepX s) (steps-x s h) w d p q k, source-divides s g good (stepY s) (steps-y s h) w d p q k))
 
   -- and so lists the positions
-  pub stride-agreed : (o : Order) → agreed s o ≡ true
+  pub stride-agreed : (o : Order) → agreed s g o ≡ true
       → nest (strided s g (sourceX s (pointsFor o)) (sourceY s (pointsFor o)) o) origin ≡ nest (loopsOf s g o) origin
   stride-agreed lrcp e = refl
   stride-agreed rlcp e = refl
-  stride-agreed rpcl e = strided-positions s g _ _ rpcl (source-passes oneResolution (and-true (stepsFit s) (stepsDivide s) e .1))
-  stride-agreed pcrl e = strided-positions s g _ _ pcrl (source-passes everything (and-true (stepsFit s) (stepsDivide s) e .1))
+  stride-agreed rpcl e = strided-positions s g _ _ rpcl (source-passes oneResolution (and-true (stepsFit s 0 (s .st .components)) (stepsDivide s) e .1))
+  stride-agreed pcrl e = strided-positions s g _ _ pcrl (source-passes everything (and-true (stepsFit s 0 (s .st .components)) (stepsDivide s) e .1))
   stride-agreed cprl e = strided-positions s g _ _ cprl (source-passes oneComponent refl)
   stride-agreed other e = refl
 
 -- so the positions of any progression, if it has any
-pub stride-listed : (s : Sheet) → Good s → (g : Range) (o : Order) → agreed s o ≡ true
+pub stride-listed : (s : Sheet) → Good s → (g : Range) (o : Order) → agreed s g o ≡ true
     → cond (hasPositions s g o) (nest (strided s g (sourceX s (pointsFor o)) (sourceY s (pointsFor o)) o) origin) [] ≡ positionsIn s g o
 stride-listed s h g o e =
     strided-listed s g (sourceX s (pointsFor o)) (sourceY s (pointsFor o)) o (λ k. stride-agreed s h g (has-good s g o k) o e)

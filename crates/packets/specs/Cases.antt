@@ -1,4 +1,4 @@
--- 01's worked cases P-a to P-l ('Listing program and its sheets') as rows of a single list, each checked by computing on the bytes of its sheet: what setup
+-- 01's worked cases P-a to P-l ('Listing program and its sheets') and 02's P5 as rows of a single list, each checked by computing on the bytes of its sheet: what setup
 -- answers, the precincts, the packets in order, and what steps answer. P-j has 32,767 points to test, so positions are computed by the next hit in play
 -- (theorem 2, InPlay); what the listing program prints for sheet A is computed point by point. Assumes nothing.
 use Prim.Native.Nat.{ℕ, _+_, _-_}
@@ -81,6 +81,11 @@ abbrev uneven : List (List ℕ)
 uneven =
     (1 ∷ 0 ∷ 0 ∷ 32 ∷ 16 ∷ 1 ∷ 2 ∷ 1 ∷ []) ∷ (2 ∷ 1 ∷ 1 ∷ 1 ∷ []) ∷ (3 ∷ 4 ∷ 4 ∷ []) ∷ (2 ∷ 1 ∷ 1 ∷ 2 ∷ []) ∷ (3 ∷ 3 ∷ 3 ∷ []) ∷ (3 ∷ 4 ∷ 4 ∷ []) ∷ (5 ∷ 2 ∷ []) ∷ []
 
+-- P5's: luma of two resolutions beside an alpha plane of 33 with exponents 15, whose steps go up to 2^47
+abbrev alpha : List ℕ → List (List ℕ)
+alpha change =
+    (1 ∷ 0 ∷ 0 ∷ 8 ∷ 4 ∷ 1 ∷ 2 ∷ 1 ∷ []) ∷ (2 ∷ 1 ∷ 1 ∷ 2 ∷ []) ∷ (3 ∷ 1 ∷ 1 ∷ []) ∷ (3 ∷ 2 ∷ 2 ∷ []) ∷ (2 ∷ 1 ∷ 1 ∷ 33 ∷ []) ∷ (replicate 33 (3 ∷ 15 ∷ 15 ∷ []) ++ change ∷ [])
+
 -- PACKETS: layer, resolution, component, precinct, and the point where it is met
 abbrev at : ℕ → ℕ → ℕ → ℕ → ℕ → ℕ → Position
 at l r c k x y = record { layno = l; resno = r; compno = c; precno = k; x = x; y = y }
@@ -114,6 +119,10 @@ accepts sheet marks sizes packets answers = record { sheet = sheet; number = pos
 
 abbrev refuses : List (List ℕ) → ℕ → Row
 refuses sheet n = record { sheet = sheet; number = refusal n; marks = 0; sizes = []; packets = []; answers = [] }
+
+-- P5's with this progression: luma's counts are 2 by 1, the alpha plane's 1 by 1; a mark for 33 resolutions of two components with two precincts each
+abbrev withAlpha : List ℕ → List Position → List ℕ → Row
+withAlpha change packets answers = accepts (alpha change) 132 ((2 ∷ 1 ∷ 2 ∷ 1 ∷ []) ++ replicate 66 1) packets (answers ∷ [])
 
 -- A with these progressions: counts 2 by 1 for both resolutions, 8 marks
 abbrev withA : List (List ℕ) → List Position → List (List ℕ) → Row
@@ -154,6 +163,15 @@ rows =
     ∷ withA ((5 ∷ 5 ∷ []) ∷ []) [] ((0 ∷ []) ∷ [])
     -- 01, 'Easy slips': levels are the component's own; and a resolution is skipped for a component that hasn't got it
     ∷ accepts uneven 8 (2 ∷ 1 ∷ 2 ∷ 1 ∷ 2 ∷ 1 ∷ []) (at 0 0 0 0 0 0 ∷ at 0 0 1 0 0 0 ∷ at 0 0 0 1 16 0 ∷ at 0 0 1 1 16 0 ∷ at 0 1 1 0 0 0 ∷ at 0 1 1 1 16 0 ∷ []) []
+    -- 02, P5: order 4 for luma alone never looks at the alpha plane
+    ∷ withAlpha (4 ∷ 4 ∷ 0 ∷ 0 ∷ 1 ∷ 33 ∷ 1 ∷ []) (at 0 0 0 0 0 0 ∷ at 0 1 0 0 0 0 ∷ at 0 0 0 1 4 0 ∷ at 0 1 0 1 4 0 ∷ []) (1 ∷ 1 ∷ 1 ∷ 1 ∷ 0 ∷ [])
+    -- with compno1 reaching it, with all components, and in order 2: -4
+    ∷ refuses (alpha (4 ∷ 4 ∷ 0 ∷ 0 ∷ 1 ∷ 33 ∷ 2 ∷ [])) 4
+    ∷ refuses (alpha (5 ∷ 4 ∷ [])) 4
+    ∷ refuses (alpha (4 ∷ 2 ∷ 0 ∷ 0 ∷ 1 ∷ 33 ∷ 1 ∷ [])) 4
+    -- compno1 above the components, or a range without components: no positions
+    ∷ withAlpha (4 ∷ 4 ∷ 0 ∷ 0 ∷ 1 ∷ 33 ∷ 3 ∷ []) [] (0 ∷ [])
+    ∷ withAlpha (4 ∷ 4 ∷ 0 ∷ 1 ∷ 1 ∷ 33 ∷ 1 ∷ []) [] (0 ∷ [])
     ∷ []
 
 -- THE TEST
@@ -253,7 +271,7 @@ in-play-hold : allBy (listedBy inPlay) (stepVia inPlay) rows ≡ true
 unfolding computed rows allBy holdsBy inPlay listedBy stepVia positionsBy setupOf sheetSound stateSound isIn componentsSound progressionsSound tableSound entrySound reportsSound same decided behind freeByte markedByte freeAt markAt seek nextInPlay least
 in-play-hold = refl
 
--- THEOREM: P-a to P-l hold
+-- THEOREM: P-a to P-l and P5's cases hold
 pub rows-hold : all rows ≡ true
 rows-hold = by-in-play rows in-play-hold
 

@@ -1,21 +1,26 @@
--- The agreed grid (01, 'Agreed grid'; refusal -4).
-use Prim.Native.Nat.{ℕ, _%_}
-use mathlib.Core.Bool.{Bool, true, _&&_}
+-- The agreed grid (01, 'Agreed grid', as 02, P5 has it; refusal -4).
+use Prim.Native.Nat.{ℕ, _+_, _-_, _%_}
+use mathlib.Core.Bool.{Bool, true, _&&_, _||_, not}
 use lib.ListN.{getD}
 use lib.Dec.{leb, eqb}
 use Rattle.laws.specs.Below.{allBelow, minBelow}
 use Rattle.geometry.specs.Line.{step}
 use Rattle.types.specs.State.{noProgression}
 use Rattle.packets.specs.Tile.{Sheet, lineX, lineY, resOf}
-use Rattle.types.specs.Orders.{orderOf}
+use Rattle.types.specs.Orders.{orderOf, rangeOf, componentsGood}
 use Rattle.types.specs.declared.order.Order.{Order}
 use Rattle.types.specs.declared.order.Order.the-variants.{Lrcp as lrcp, Rlcp as rlcp, Rpcl as rpcl, Pcrl as pcrl, Cprl as cprl, NoPositions as other}
+use Rattle.types.specs.declared.order.Range.{Range}
 use Rattle.types.specs.declared.state.Progression.{Progression}
 use Rattle.types.specs.declared.state.State.{State}
 
 -- a test of every resolution of every component
 abbrev pub everywhere : State → (ℕ → ℕ → Bool) → Bool
 everywhere st f = allBelow (λ c. allBelow (f c) (resOf st c)) (st .components)
+
+-- of every resolution of the components from c0 up to c1
+abbrev pub between : State → ℕ → ℕ → (ℕ → ℕ → Bool) → Bool
+between st c0 c1 f = allBelow (λ i. allBelow (f (c0 + i)) (resOf st (c0 + i))) (c1 - c0)
 
 -- 01: d·2^(pd+level), on each axis
 abbrev pub stepX : Sheet → ℕ → ℕ → ℕ
@@ -31,23 +36,24 @@ smallestOf f st c = minBelow (f c 0) (f c) (resOf st c)
 abbrev pub smallest : (ℕ → ℕ → ℕ) → State → ℕ
 smallest f st = minBelow (f 0 0) (smallestOf f st) (st .components)
 
--- 01: every step of every component is at most 4,294,967,295
-unfoldable pub stepsFit : Sheet → Bool
-stepsFit s = everywhere (s .st) (λ c r. leb (stepX s c r) 4294967295 && leb (stepY s c r) 4294967295)
+-- 01: every step is at most 4,294,967,295; here of the components from c0 up to c1
+unfoldable pub stepsFit : Sheet → ℕ → ℕ → Bool
+stepsFit s c0 c1 = between (s .st) c0 c1 (λ c r. leb (stepX s c r) 4294967295 && leb (stepY s c r) 4294967295)
 
 -- 01: for orders 2 and 3 the step also divides all of them, on each axis
 unfoldable pub stepsDivide : Sheet → Bool
 stepsDivide s =
     everywhere (s .st) (λ c r. eqb (stepX s c r % smallest (stepX s) (s .st)) 0 && eqb (stepY s c r % smallest (stepY s) (s .st)) 0)
 
--- 01: other orders are not tested
-abbrev pub agreed : Sheet → Order → Bool
-agreed s lrcp = true
-agreed s rlcp = true
-agreed s rpcl = stepsFit s && stepsDivide s
-agreed s pcrl = stepsFit s && stepsDivide s
-agreed s cprl = stepsFit s
-agreed s other = true
+-- 01: orders 2 and 3 ask it of every component. 02, P5: order 4 asks it of those from compno0 up to compno1, and of none if the progression has no positions
+-- for its component range. 01: other orders are not tested
+abbrev pub agreed : Sheet → Range → Order → Bool
+agreed s g lrcp = true
+agreed s g rlcp = true
+agreed s g rpcl = stepsFit s 0 (s .st .components) && stepsDivide s
+agreed s g pcrl = stepsFit s 0 (s .st .components) && stepsDivide s
+agreed s g cprl = not (componentsGood (s .st) g) || stepsFit s (g .compno0) (g .compno1)
+agreed s g other = true
 
 -- progression k
 abbrev pub changeOf : State → ℕ → Progression
@@ -55,4 +61,4 @@ changeOf st k = getD (st .changes) k noProgression
 
 -- the grid is agreed for every progression
 unfoldable pub gridAgreed : Sheet → Bool
-gridAgreed s = allBelow (λ k. agreed s (orderOf (changeOf (s .st) k .prg))) (s .st .progressions)
+gridAgreed s = allBelow (λ k. agreed s (rangeOf (s .st) (changeOf (s .st) k)) (orderOf (changeOf (s .st) k .prg))) (s .st .progressions)

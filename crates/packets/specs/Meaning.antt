@@ -10,19 +10,21 @@ use lib.Dec.{eqb}
 use lib.IntN.{ℤ, pos, negsuc}
 use borrow.Author.Tests.{le-leb}
 use Rattle.laws.specs.Cases.{and-true, and-both}
-use Rattle.laws.specs.Means.{Means, ltb-means, leb-means, eqb-means, means-by, and-means, or-means, all-means, from-means}
+use Rattle.laws.specs.Below.{allBelow}
+use Rattle.laws.specs.Means.{Means, ltb-means, leb-means, eqb-means, means-by, and-means, or-means, if-means, all-means, from-means}
 use Rattle.types.specs.State.{noProgression}
 use Rattle.types.specs.Ranges.{within, componentRange}
 use Rattle.packets.specs.Tile.{Sheet, dxOf, dyOf, resOf, width, height, maxPrec, maxRes, dxMin, dyMin, needed, tableBytes}
-use Rattle.types.specs.Orders.{orderOf}
+use Rattle.types.specs.Orders.{orderOf, rangeOf, componentsGood}
 use Rattle.types.specs.declared.order.Order.{Order}
 use Rattle.types.specs.declared.order.Order.the-variants.{Lrcp as lrcp, Rlcp as rlcp, Rpcl as rpcl, Pcrl as pcrl, Cprl as cprl, NoPositions as other}
-use Rattle.packets.specs.Grid.{everywhere, stepX, stepY, smallest, stepsFit, stepsDivide, agreed, changeOf, gridAgreed}
+use Rattle.packets.specs.Grid.{everywhere, between, stepX, stepY, smallest, stepsFit, stepsDivide, agreed, changeOf, gridAgreed}
 use Rattle.packets.specs.Table.{entryWord, sheetAt}
 use Rattle.types.specs.Signed.{isZero}
 use Rattle.packets.specs.Sound.{tileGood, componentsSound, noRange, progressionGood, progressionsSound, entrySound, tableSound, reportsSound, sheetSound, stateSound, placeSound, positionsFor, cursorSound, sound}
 use Rattle.packets.specs.Good.{Good}
 use Rattle.packets.specs.Inside.{is-in, in-is}
+use Rattle.types.specs.declared.order.Range.{Range}
 use Rattle.types.specs.declared.state.Progression.{Progression}
 use Rattle.types.specs.declared.state.State.{State}
 use Rattle.types.specs.declared.cursor.Position.{Position}
@@ -85,22 +87,30 @@ pub record EntryIn (st : State) (table : List ℕ) (c r : ℕ) : Type 0 where
 abbrev pub Everywhere : State → (ℕ → ℕ → Type 0) → Type 0
 Everywhere st P = (c : ℕ) → c < st .components → (r : ℕ) → r < resOf st c → P c r
 
--- 01, 'Agreed grid': every step fits 32 bits
-abbrev pub StepsFit : Sheet → Type 0
-StepsFit s = Everywhere (s .st) (λ c r. (stepX s c r ≤ 4294967295) × (stepY s c r ≤ 4294967295))
+-- and of the components from c0 up to c1
+abbrev pub InComponents : State → ℕ → ℕ → (ℕ → ℕ → Type 0) → Type 0
+InComponents st c0 c1 P = (c : ℕ) → c0 ≤ c → c < c1 → (r : ℕ) → r < resOf st c → P c r
+
+-- 01, 'Agreed grid': every step of these fits 32 bits
+abbrev pub StepsFit : Sheet → ℕ → ℕ → Type 0
+StepsFit s c0 c1 = InComponents (s .st) c0 c1 (λ c r. (stepX s c r ≤ 4294967295) × (stepY s c r ≤ 4294967295))
 
 -- and the smallest divides every step, on each axis
 abbrev pub StepsDivide : Sheet → Type 0
 StepsDivide s = Everywhere (s .st) (λ c r. (stepX s c r % smallest (stepX s) (s .st) ≡ 0) × (stepY s c r % smallest (stepY s) (s .st) ≡ 0))
 
--- by the order; others than 2 to 4 are not tested
-abbrev pub AgreedFor : Sheet → Order → Type 0
-AgreedFor s lrcp = Unit
-AgreedFor s rlcp = Unit
-AgreedFor s rpcl = StepsFit s × StepsDivide s
-AgreedFor s pcrl = StepsFit s × StepsDivide s
-AgreedFor s cprl = StepsFit s
-AgreedFor s other = Unit
+-- a progression's component range names components that there are (01; else it has no positions)
+abbrev pub ComponentsIn : State → Range → Type 0
+ComponentsIn st g = (g .compno0 < st .components) × (g .compno1 ≤ st .components)
+
+-- by the order: 4 asks of its own components, where it has such; others than 2 to 4 are not tested
+abbrev pub AgreedFor : Sheet → Range → Order → Type 0
+AgreedFor s g lrcp = Unit
+AgreedFor s g rlcp = Unit
+AgreedFor s g rpcl = StepsFit s 0 (s .st .components) × StepsDivide s
+AgreedFor s g pcrl = StepsFit s 0 (s .st .components) × StepsDivide s
+AgreedFor s g cprl = ComponentsIn (s .st) g → StepsFit s (g .compno0) (g .compno1)
+AgreedFor s g other = Unit
 
 -- A SOUND STATE, with its table and marks
 pub record Sound (st : State) (table marks : List ℕ) : Type 0 where
@@ -115,7 +125,7 @@ pub record Sound (st : State) (table marks : List ℕ) : Type 0 where
   pub deepest : st .reports .«max_res» ≡ maxRes st
   pub least-x : st .reports .«dx_min» ≡ dxMin (sheetAt st table)
   pub least-y : st .reports .«dy_min» ≡ dyMin (sheetAt st table)
-  pub grid : (k : ℕ) → k < st .progressions → AgreedFor (sheetAt st table) (orderOf (changeOf st k .prg))
+  pub grid : (k : ℕ) → k < st .progressions → AgreedFor (sheetAt st table) (rangeOf st (changeOf st k)) (orderOf (changeOf st k .prg))
   pub few : needed st ≤ 65536
   pub marks-long : needed st ≤ length marks
 
@@ -130,6 +140,9 @@ within-means lo hi x = and-means (leb-means lo x) (leb-means x hi)
 
 everywhere-means : (st : State) (f : ℕ → ℕ → Bool) {P : ℕ → ℕ → Type 0} → ((c r : ℕ) → Means (f c r) (P c r)) → Means (everywhere st f) (Everywhere st P)
 everywhere-means st f m = all-means _ (st .components) (λ c. all-means (f c) (resOf st c) (m c))
+
+between-means : (st : State) (c0 c1 : ℕ) (f : ℕ → ℕ → Bool) {P : ℕ → ℕ → Type 0} → ((c r : ℕ) → Means (f c r) (P c r)) → Means (between st c0 c1 f) (InComponents st c0 c1 P)
+between-means st c0 c1 f m = from-means (λ c. allBelow (f c) (resOf st c)) c0 c1 (λ c. all-means (f c) (resOf st c) (m c))
 
 isZero-means : (z : ℤ) → Means (isZero z) (z ≡ pos 0)
 isZero-means (pos zero) = (λ e. refl, λ e. refl)
@@ -198,27 +211,33 @@ table-means : (st : State) (table : List ℕ) → Means (tableSound st table) ((
 unfolding tableSound
 table-means st table = and-means (leb-means (tableBytes st) (length table)) (everywhere-means st (entrySound st table) (entry-means st table))
 
-fit-means : (s : Sheet) → Means (stepsFit s) (StepsFit s)
+-- the steps
+pub fit-means : (s : Sheet) (c0 c1 : ℕ) → Means (stepsFit s c0 c1) (StepsFit s c0 c1)
 unfolding stepsFit
-fit-means s = everywhere-means (s .st) _ (λ c r. and-means (leb-means (stepX s c r) 4294967295) (leb-means (stepY s c r) 4294967295))
+fit-means s c0 c1 = between-means (s .st) c0 c1 _ (λ c r. and-means (leb-means (stepX s c r) 4294967295) (leb-means (stepY s c r) 4294967295))
 
 divide-means : (s : Sheet) → Means (stepsDivide s) (StepsDivide s)
 unfolding stepsDivide
 divide-means s =
     everywhere-means (s .st) _ (λ c r. and-means (eqb-means (stepX s c r % smallest (stepX s) (s .st)) 0) (eqb-means (stepY s c r % smallest (stepY s) (s .st)) 0))
 
-agreed-means : (s : Sheet) (o : Order) → Means (agreed s o) (AgreedFor s o)
-agreed-means s lrcp = (λ e. tt, λ w. refl)
-agreed-means s rlcp = (λ e. tt, λ w. refl)
-agreed-means s rpcl = and-means (fit-means s) (divide-means s)
-agreed-means s pcrl = and-means (fit-means s) (divide-means s)
-agreed-means s cprl = fit-means s
-agreed-means s other = (λ e. tt, λ w. refl)
+-- a component range
+pub components-in-means : (st : State) (g : Range) → Means (componentsGood st g) (ComponentsIn st g)
+components-in-means st g = and-means (ltb-means (g .compno0) (st .components)) (leb-means (g .compno1) (st .components))
+
+pub agreed-means : (s : Sheet) (g : Range) (o : Order) → Means (agreed s g o) (AgreedFor s g o)
+agreed-means s g lrcp = (λ e. tt, λ w. refl)
+agreed-means s g rlcp = (λ e. tt, λ w. refl)
+agreed-means s g rpcl = and-means (fit-means s 0 (s .st .components)) (divide-means s)
+agreed-means s g pcrl = and-means (fit-means s 0 (s .st .components)) (divide-means s)
+agreed-means s g cprl = if-means (components-in-means (s .st) g) (fit-means s (g .compno0) (g .compno1))
+agreed-means s g other = (λ e. tt, λ w. refl)
 
 -- the agreed grid
-pub grid-means : (s : Sheet) → Means (gridAgreed s) ((k : ℕ) → k < s .st .progressions → AgreedFor s (orderOf (changeOf (s .st) k .prg)))
+pub grid-means : (s : Sheet)
+    → Means (gridAgreed s) ((k : ℕ) → k < s .st .progressions → AgreedFor s (rangeOf (s .st) (changeOf (s .st) k)) (orderOf (changeOf (s .st) k .prg)))
 unfolding gridAgreed
-grid-means s = all-means _ (s .st .progressions) (λ k. agreed-means s (orderOf (changeOf (s .st) k .prg)))
+grid-means s = all-means _ (s .st .progressions) (λ k. agreed-means s (rangeOf (s .st) (changeOf (s .st) k)) (orderOf (changeOf (s .st) k .prg)))
 
 reports-means : (s : Sheet)
     → Means (reportsSound s) ((s .st .reports .«max_prec» ≡ maxPrec s) × ((s .st .reports .«max_res» ≡ maxRes (s .st)) × ((s .st .reports .«dx_min» ≡ dxMin s) × (s .st .reports .«dy_min» ≡ dyMin s))))

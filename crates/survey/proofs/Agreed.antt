@@ -1,22 +1,24 @@
--- The grid is agreed for every progression if the steps have the most that one of them wants. Assumes nothing.
-use mathlib.Core.Path.{_≡_, refl, _∙_}
-use mathlib.Core.Bool.{Bool, true, false, _&&_, _||_}
-use mathlib.Core.Logic.{⊎-elim}
-use Prim.Native.Nat.{ℕ, zero, suc, _%_, _≤_, _<_, max}
+-- The grid is agreed for every progression: where one wants something of all components, they have it or not, and nothing else matters; else each wants
+-- something of its own, which have it where all have it. Assumes nothing.
+use mathlib.Core.Path.{_≡_, refl, sym, _∙_}
+use mathlib.Core.Bool.{Bool, true, false, _&&_, _||_, true≢false}
+use mathlib.Core.List.{List}
+use Prim.Native.Nat.{ℕ, _%_, _≤_, _<_}
 use native.Mathlib.Omega.{arith}
-use lib.Dec.{eqb}
-use borrow.Author.Tests.{eqb-false, ne-eqb}
-use Rattle.laws.specs.Cases.{le-or-lt, and-true, and-false, split}
-use Rattle.laws.specs.Below.{allBelow, maxBelow}
-use Rattle.laws.specs.Pointwise.{all-same}
-use Rattle.laws.specs.Extremes.{all-and}
+use lib.Dec.{ltb, eqb}
+use borrow.Author.Tests.{leb-true}
+use Rattle.laws.specs.Cases.{and-true, and-both, split, asked-same}
+use Rattle.laws.specs.Below.{all-at}
+use Rattle.laws.specs.Pointwise.{all-true, all-same}
+use Rattle.laws.specs.Extremes.{same-tests, all-and}
 use Rattle.packets.specs.Tile.{Sheet, resOf}
-use Rattle.types.specs.Orders.{orderOf}
+use Rattle.types.specs.Orders.{orderOf, rangeOf, componentsGood}
 use Rattle.types.specs.declared.order.Order.{Order}
 use Rattle.types.specs.declared.order.Order.the-variants.{Lrcp as lrcp, Rlcp as rlcp, Rpcl as rpcl, Pcrl as pcrl, Cprl as cprl, NoPositions as other}
+use Rattle.types.specs.declared.order.Range.{Range}
 use Rattle.packets.specs.Grid.{everywhere, stepX, stepY, smallest, stepsFit, stepsDivide, agreed, changeOf, gridAgreed}
-use Rattle.survey.specs.Passing.{wantOf, wantedOf, hasWanted}
-use Rattle.survey.proofs.Orders.{wantAt}
+use Rattle.packets.specs.Meaning.{fit-means, agreed-means}
+use Rattle.survey.specs.Passing.{wantsOwn, allWantOwn, fitBetween, ownFit, rangesFit}
 
 -- the two axes one after the other
 pub divide-axes : (s : Sheet)
@@ -28,68 +30,70 @@ divide-axes s =
     (λ c h. all-and (λ r. eqb (stepX s c r % smallest (stepX s) (s .st)) 0) (λ r. eqb (stepY s c r % smallest (stepY s) (s .st)) 0) (resOf (s .st) c))
     ∙ all-and _ _ (s .st .components)
 
-and-same : (a : Bool) → a ≡ (a && true)
-and-same true = refl
-and-same false = refl
+module _ (s : Sheet) where
+  abbrev fit : Bool
+  fit = stepsFit s 0 (s .st .components)
 
-module _ (fit divide : Bool) where
-  -- who wants less has it where who wants more has it
-  less-wanted : (a b : ℕ) → a ≤ b → hasWanted b fit divide ≡ true → hasWanted a fit divide ≡ true
-  less-wanted a b h t =
-      split (eqb a 0)
-      (λ p. rw p)
-      (λ p.
-      let some : b ≡ 0 → ⊥ = λ z. eqb-false a 0 p (omega arith) in
-      let w = and-true fit (eqb b 1 || divide) (rw (ne-eqb b 0 some) at t) in
-      split (eqb a 1)
-      (λ q. rw (p, w .0, q))
-      (λ q.
-      let more : b ≡ 1 → ⊥ = λ z. two a b h (eqb-false a 0 p) (eqb-false a 1 q) z in
-      rw (p, w .0, q) (rw (ne-eqb b 1 more) at (w .1))))
-    where
-      two : (a b : ℕ) → a ≤ b → (a ≡ 0 → ⊥) → (a ≡ 1 → ⊥) → b ≡ 1 → ⊥
-      two a b h p q z = omega arith
+  -- steps that fit everywhere fit in any range
+  range-agrees : fit ≡ true → (g : Range) → agreed s g cprl ≡ true
+  range-agrees t g = agreed-means s g cprl .1 (λ w c a b r l. fit-means s 0 (s .st .components) .0 t c (omega arith) (omega (arith, w .1)) r l)
 
-  more-wanted : (a b : ℕ) → a ≤ b → (hasWanted a fit divide && hasWanted b fit divide) ≡ hasWanted b fit divide
-  more-wanted a b h =
-      split (hasWanted b fit divide)
-      (λ t. rw (t, less-wanted a b h t))
-      (λ t. rw t (and-false (hasWanted a fit divide)))
+  -- so they are enough for any order, with a smallest that divides where it wants that
+  all-agree : fit ≡ true → (g : Range) (o : Order) → (wantsOwn o ≡ false → stepsDivide s ≡ true) → agreed s g o ≡ true
+  all-agree t g lrcp d = refl
+  all-agree t g rlcp d = refl
+  all-agree t g rpcl d = and-both t (d refl)
+  all-agree t g pcrl d = and-both t (d refl)
+  all-agree t g cprl d = range-agrees t g
+  all-agree t g other d = refl
 
-  and-swap : (a b : Bool) → (a && b) ≡ (b && a)
-  and-swap true true = refl
-  and-swap true false = refl
-  and-swap false true = refl
-  and-swap false false = refl
+  -- and an order that is agreed without it wants nothing of others than its own
+  agreed-own : (fit && stepsDivide s) ≡ false → (g : Range) (o : Order) → agreed s g o ≡ true → wantsOwn o ≡ true
+  agreed-own f g lrcp t = refl
+  agreed-own f g rlcp t = refl
+  agreed-own f g rpcl t = absurd (true≢false (sym t ∙ f))
+  agreed-own f g pcrl t = absurd (true≢false (sym t ∙ f))
+  agreed-own f g cprl t = refl
+  agreed-own f g other t = refl
 
-  wanted-max : (a b : ℕ) → (hasWanted a fit divide && hasWanted b fit divide) ≡ hasWanted (max a b) fit divide
-  wanted-max a b =
-      ⊎-elim
-      (λ (h : a ≤ b). let e : max a b ≡ b = omega arith in rw e (more-wanted a b h))
-      (λ (h : b < a). let e : max a b ≡ a = omega arith in rw e (and-swap (hasWanted a fit divide) (hasWanted b fit divide) ∙ more-wanted b a (omega arith)))
-      (le-or-lt a b)
+  -- ONE WANTS SOMETHING OF ALL
+  pub grid-all : allWantOwn (s .st) ≡ false → gridAgreed s ≡ (fit && stepsDivide s)
+  unfolding gridAgreed allWantOwn
+  grid-all some =
+      same-tests _ _
+      (λ t.
+      split (fit && stepsDivide s)
+      (λ e. e)
+      (λ f.
+      absurd
+      (true≢false
+      (sym (all-true _ (s .st .progressions) (λ k h. agreed-own f (rangeOf (s .st) (changeOf (s .st) k)) (orderOf (changeOf (s .st) k .prg)) (all-at _ (s .st .progressions) t k h)))
+      ∙ some))))
+      (λ t.
+      let w = and-true fit (stepsDivide s) t in
+      all-true _ (s .st .progressions) (λ k h. all-agree (w .0) (rangeOf (s .st) (changeOf (s .st) k)) (orderOf (changeOf (s .st) k .prg)) (λ n. w .1)))
 
-  all-wanted : (f : ℕ → ℕ) (n : ℕ) → allBelow (λ k. hasWanted (f k) fit divide) n ≡ hasWanted (maxBelow f n) fit divide
-  unfolding allBelow maxBelow
-  all-wanted f zero = refl
-  all-wanted f (suc n) = rw (all-wanted f n) (wanted-max (maxBelow f n) (f n))
+  -- EACH OF ITS OWN. Of these a list says whether their steps fit
+  module _ (l : List Bool) (says : (c0 c1 : ℕ) → c1 ≤ s .st .components → stepsFit s c0 c1 ≡ fitBetween l c0 c1) where
+    own-agrees : (g : Range) (o : Order) → wantsOwn o ≡ true → agreed s g o ≡ ownFit (s .st) l g o
+    own-agrees g lrcp t = refl
+    own-agrees g rlcp t = refl
+    own-agrees g rpcl t = absurd (true≢false (sym t))
+    own-agrees g pcrl t = absurd (true≢false (sym t))
+    own-agrees g cprl t =
+        asked-same (componentsGood (s .st) g) (stepsFit s (g .compno0) (g .compno1)) (fitBetween l (g .compno0) (g .compno1))
+        (λ e. says (g .compno0) (g .compno1) (leb-true _ _ (and-true (ltb (g .compno0) (s .st .components)) _ e .1)))
+    own-agrees g other t = refl
 
--- what an order wants of the grid is what it is tested for
-agreed-wants : (s : Sheet) (o : Order) → agreed s o ≡ hasWanted (wantOf o) (stepsFit s) (stepsDivide s)
-agreed-wants s lrcp = refl
-agreed-wants s rlcp = refl
-agreed-wants s rpcl = refl
-agreed-wants s pcrl = refl
-agreed-wants s cprl = and-same (stepsFit s)
-agreed-wants s other = refl
+    pub grid-own : allWantOwn (s .st) ≡ true → gridAgreed s ≡ (fit || rangesFit (s .st) l)
+    unfolding gridAgreed allWantOwn rangesFit
+    grid-own t = by fit refl
+      where
+        wants : (k : ℕ) → k < s .st .progressions → wantsOwn (orderOf (changeOf (s .st) k .prg)) ≡ true
+        wants = all-at _ (s .st .progressions) t
 
-pub grid-wants : (s : Sheet) → gridAgreed s ≡ hasWanted (wantedOf (s .st)) (stepsFit s) (stepsDivide s)
-unfolding gridAgreed wantedOf
-grid-wants s =
-    all-same _ _ (s .st .progressions) (λ k h. agreed-wants s (orderOf (changeOf (s .st) k .prg)))
-    ∙ all-wanted (stepsFit s) (stepsDivide s) (wantAt (s .st)) (s .st .progressions)
-
--- whether they divide is asked only of steps that fit
-pub wants-same : (w : ℕ) (fit a b : Bool) → (fit ≡ true → a ≡ b) → hasWanted w fit a ≡ hasWanted w fit b
-wants-same w true a b h = rw (h refl)
-wants-same w false a b h = refl
+        by : (b : Bool) → fit ≡ b → gridAgreed s ≡ (b || rangesFit (s .st) l)
+        by true f =
+            all-true _ (s .st .progressions)
+            (λ k h. all-agree f (rangeOf (s .st) (changeOf (s .st) k)) (orderOf (changeOf (s .st) k .prg)) (λ n. absurd (true≢false (sym (wants k h) ∙ n))))
+        by false f = all-same _ _ (s .st .progressions) (λ k h. own-agrees (rangeOf (s .st) (changeOf (s .st) k)) (orderOf (changeOf (s .st) k .prg)) (wants k h))

@@ -1,29 +1,31 @@
 -- What the survey finds once every component is passed: each number is the sheet's. Assumes nothing.
 use mathlib.Core.Path.{_≡_, refl, sym, ap, _∙_}
-use mathlib.Core.Bool.{Bool, true, cond, _&&_}
+use mathlib.Core.Bool.{Bool, true, false, cond, _&&_, _||_}
 use mathlib.Core.List.{List}
-use Prim.Native.Nat.{ℕ, _+_, _≤_, _<_, min}
-use lib.Dec.{leb}
-use borrow.Author.Tests.{le-leb, leb-true}
-use Rattle.laws.specs.Cases.{and-true}
-use Rattle.laws.specs.Below.{all-at}
-use Rattle.packets.specs.Tile.{Sheet, dxOf, dyOf, resOf, levelOf, maxPrec, maxRes, dxMin, dyMin, reported, needed}
+use Prim.Native.Nat.{ℕ, _+_, _-_, _≤_, _<_, min}
+use native.Mathlib.Omega.{arith}
+use borrow.Author.Tests.{le-leb}
+use Rattle.laws.specs.Cases.{split}
+use Rattle.laws.specs.Below.{allBelow, all-at}
+use Rattle.laws.specs.Pointwise.{all-same}
+use Rattle.packets.specs.Tile.{dxOf, dyOf, resOf, levelOf, maxPrec, maxRes, dxMin, dyMin, reported, needed}
 use Rattle.packets.specs.Grid.{stepX, stepY, stepsFit, stepsDivide, gridAgreed}
+use Rattle.packets.specs.Meaning.{StepsFit, fit-means}
 use Rattle.types.specs.declared.state.State.{State}
 use Rattle.survey.specs.Capped.{capped, same-few, same-number}
-use Rattle.survey.specs.Passing.{wantedOf, multiples, hasWanted, agreedOf, neededOf, marksOf, findingsOf}
+use Rattle.survey.specs.Passing.{allWantOwn, multiples, fitBetween, rangesFit, agreedOf, neededOf, marksOf, findingsOf}
 use Rattle.survey.specs.declared.sums.Sums.{Sums}
 use Rattle.survey.specs.declared.places.Places.{Places}
 use Rattle.survey.specs.Ranges.{Ranged, in-range}
 use Rattle.survey.proofs.Bases.{placeIn}
-use Rattle.survey.proofs.Over.{rangedAt, goodOver, foundOver, sumsTo}
+use Rattle.survey.proofs.Over.{rangedAt, goodOver, foundOver, fitsIn, sumsTo}
 use Rattle.survey.proofs.Steps.{least-above, divide-is, clip-is}
-use Rattle.survey.proofs.Agreed.{divide-axes, grid-wants, wants-same}
+use Rattle.survey.proofs.Agreed.{divide-axes, grid-all, grid-own}
 use Rattle.survey.proofs.Products.{needed-cut}
 use Rattle.survey.proofs.Seen.{sheetBy, Seen}
 
-module _ {e : List ℕ} {p : Places} {check : Bool} {st : State} {here : Places} {all : Sums} {deep : ℕ} {xs ys : List ℕ}
-    (s : Seen e p check st here all deep xs ys (st .components)) where
+module _ {e : List ℕ} {p : Places} {check : Bool} {st : State} {here : Places} {all : Sums} {deep : ℕ} {fits : List Bool} {xs ys : List ℕ}
+    (s : Seen e p check st here all deep fits xs ys (st .components)) where
   ranged : (c : ℕ) → c < st .components → Ranged (dxOf st c) (dyOf st c) (resOf st c)
   ranged c h = in-range (dxOf st c) (dyOf st c) (resOf st c) (all-at (rangedAt st) (st .components) (s .ranged) c h)
 
@@ -43,29 +45,41 @@ module _ {e : List ℕ} {p : Places} {check : Bool} {st : State} {here : Places}
   unfolding sumsTo by-y
   above-y = rw (s .sums) (least-above st (dyOf st) by-y (λ c h. ranged c h .dy-low))
 
-  steps-small : stepsFit (sheetBy e p st) ≡ true → (c r : ℕ) → c < st .components → r < resOf st c
-      → (stepX (sheetBy e p st) c r ≤ 4294967295) × (stepY (sheetBy e p st) c r ≤ 4294967295)
-  unfolding stepsFit
-  steps-small fit c r h l =
-      let t : Sheet = sheetBy e p st in
-      let w = and-true (leb (stepX t c r) 4294967295) (leb (stepY t c r) 4294967295) (all-at _ (resOf st c) (all-at _ (st .components) fit c h) r l) in
-      (leb-true _ _ (w .0), leb-true _ _ (w .1))
+  -- the steps from component c0 up to c1 fit where the list says so of each, and those of all where the sums do
+  between-is : (c0 c1 : ℕ) → c1 ≤ st .components → stepsFit (sheetBy e p st) c0 c1 ≡ fitBetween fits c0 c1
+  unfolding stepsFit fitBetween
+  between-is c0 c1 h = all-same _ _ (c1 - c0) (λ i l. sym (s .fit (c0 + i) (omega arith)))
 
-  divides : stepsFit (sheetBy e p st) ≡ true
+  all-fit : stepsFit (sheetBy e p st) 0 (st .components) ≡ all .fit
+  unfolding stepsFit sumsTo
+  all-fit =
+      ap (allBelow (λ i. fitsIn (sheetBy e p st) (0 + i))) (omega arith)
+      ∙ all-same _ _ (st .components) (λ c l. ap (fitsIn (sheetBy e p st)) (omega arith)) ∙ sym (ap (λ (a : Sums). a .fit) (s .sums))
+
+  divides : stepsFit (sheetBy e p st) 0 (st .components) ≡ true
       → stepsDivide (sheetBy e p st) ≡ (multiples xs (st .components) (all .«x_least») && multiples ys (st .components) (all .«y_least»))
   unfolding sumsTo by-x by-y
   divides fit =
-      let x = divide-is st (dxOf st) by-x (λ c h. ranged c h .dx-low) (λ c h. ranged c h .n-low) (λ c r h l. steps-small fit c r h l .0) xs (s .least-x) in
-      let y = divide-is st (dyOf st) by-y (λ c h. ranged c h .dy-low) (λ c h. ranged c h .n-low) (λ c r h l. steps-small fit c r h l .1) ys (s .least-y) in
+      let small : StepsFit (sheetBy e p st) 0 (st .components) = fit-means (sheetBy e p st) 0 (st .components) .0 fit in
+      let x = divide-is st (dxOf st) by-x (λ c h. ranged c h .dx-low) (λ c h. ranged c h .n-low) (λ c r h l. small c (omega arith) h r l .0) xs (s .least-x) in
+      let y = divide-is st (dyOf st) by-y (λ c h. ranged c h .dy-low) (λ c h. ranged c h .n-low) (λ c r h l. small c (omega arith) h r l .1) ys (s .least-y) in
       rw (s .sums) (divide-axes (sheetBy e p st) ∙ (λ i. x i && y i))
 
-  grid-is : agreedOf (wantedOf st) (all .fit) xs (all .«x_least») ys (all .«y_least») (st .components) ≡ gridAgreed (sheetBy e p st)
-  unfolding agreedOf stepsFit sumsTo
+  -- whether they divide is asked only where all fit
+  whole-is : (stepsFit (sheetBy e p st) 0 (st .components) && stepsDivide (sheetBy e p st))
+      ≡ (all .fit && (multiples xs (st .components) (all .«x_least») && multiples ys (st .components) (all .«y_least»)))
+  whole-is = rw (← all-fit) (by (stepsFit (sheetBy e p st) 0 (st .components)) divides)
+    where
+      by : {a b : Bool} (t : Bool) → (t ≡ true → a ≡ b) → (t && a) ≡ (t && b)
+      by true h = h refl
+      by false h = refl
+
+  grid-is : agreedOf st (all .fit) fits xs (all .«x_least») ys (all .«y_least») ≡ gridAgreed (sheetBy e p st)
+  unfolding agreedOf
   grid-is =
-      let t : Sheet = sheetBy e p st in
-      let fit : stepsFit t ≡ all .fit = rw (s .sums) refl in
-      let both : Bool = multiples xs (st .components) (all .«x_least») && multiples ys (st .components) (all .«y_least») in
-      sym (grid-wants t ∙ wants-same (wantedOf st) (stepsFit t) (stepsDivide t) both divides ∙ ap (λ (f : Bool). hasWanted (wantedOf st) f both) fit)
+      split (allWantOwn st)
+      (λ t. rw t (sym (grid-own (sheetBy e p st) fits between-is t ∙ ap (λ (f : Bool). f || rangesFit st fits) all-fit)))
+      (λ t. rw t (sym (grid-all (sheetBy e p st) t ∙ whole-is)))
 
   good-is : st .components ≤ 16 → goodOver e (placeIn p st) check st ≡ true
   unfolding goodOver
@@ -87,7 +101,7 @@ module _ {e : List ℕ} {p : Places} {check : Bool} {st : State} {here : Places}
   unfolding dyMin sumsTo
   dy-is = rw (s .sums) (sym (clip-is st (stepY (sheetBy e p st))))
 
-  pub found-is : st .components ≤ 16 → findingsOf (wantedOf st) (st .layers) (st .components) deep all xs ys ≡ foundOver e (placeIn p st) check st
+  pub found-is : st .components ≤ 16 → findingsOf (agreedOf st (all .fit) fits xs (all .«x_least») ys (all .«y_least»)) (st .layers) (st .components) deep all ≡ foundOver e (placeIn p st) check st
   unfolding findingsOf foundOver marksOf needed reported
   found-is h =
       let prec : ℕ = maxPrec (sheetBy e p st) in

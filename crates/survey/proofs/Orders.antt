@@ -1,32 +1,29 @@
 -- What the progressions want of the grid: those beyond the array want nothing. Assumes nothing.
-use mathlib.Core.Path.{_≡_, sym, ap, _∙_}
-use mathlib.Core.Logic.{⊎-elim}
-use Prim.Native.Nat.{ℕ, _+_, _-_, _≤_, _<_, min}
+use mathlib.Core.Path.{_≡_, refl}
+use mathlib.Core.Bool.{Bool, true}
+use mathlib.Core.List.{List}
+use Prim.Native.Nat.{min}
 use native.Mathlib.Omega.{arith}
 use lib.ListN.{length, List·getD-eq-default}
-use Rattle.laws.specs.Cases.{le-or-lt}
-use Rattle.laws.specs.Below.{maxBelow}
-use Rattle.laws.specs.Extremes.{max-beyond}
+use Rattle.laws.specs.Below.{allBelow}
+use Rattle.laws.specs.Extremes.{all-up-to}
 use Rattle.types.specs.State.{noProgression}
 use Rattle.types.specs.Orders.{orderOf}
 use Rattle.packets.specs.Grid.{changeOf}
+use Rattle.types.specs.declared.state.Progression.{Progression}
 use Rattle.types.specs.declared.state.State.{State}
-use Rattle.survey.specs.Passing.{wantOf, wantedOf}
+use Rattle.survey.specs.Passing.{wantsOwn, allWantOwn, rangeFits, rangesFit}
 
--- what progression k wants
-abbrev pub wantAt : State → ℕ → ℕ
-wantAt st k = wantOf (orderOf (changeOf st k .prg))
+module _ (st : State) (long : length (st .changes) ≡ 32) where
+  -- a test that a progression with every number 0 passes
+  up-to : (f : Progression → Bool) → f noProgression ≡ true
+      → allBelow (λ k. f (changeOf st k)) (min (st .progressions) 32) ≡ allBelow (λ k. f (changeOf st k)) (st .progressions)
+  up-to f h = all-up-to (λ k. f (changeOf st k)) 32 (λ k l. rw (List·getD-eq-default (st .changes) noProgression {n = k} (omega arith)) h) (st .progressions)
 
-pub want-beyond : (st : State) → length (st .changes) ≡ 32 → maxBelow (wantAt st) (min (st .progressions) 32) ≡ wantedOf st
-unfolding wantedOf
-want-beyond st h =
-    ⊎-elim
-    (λ (l : st .progressions ≤ 32). let e : min (st .progressions) 32 ≡ st .progressions = omega arith in rw e)
-    (λ (l : 32 < st .progressions).
-    let e : min (st .progressions) 32 ≡ 32 = omega arith in
-    let d : st .progressions ≡ 32 + (st .progressions - 32) = omega arith in
-    rw e (sym (ap (maxBelow (wantAt st)) d ∙ max-beyond (wantAt st) 32 beyond (st .progressions - 32))))
-    (le-or-lt (st .progressions) 32)
-  where
-    beyond : (k : ℕ) → 32 ≤ k → wantAt st k ≡ 0
-    beyond k l = rw (List·getD-eq-default (st .changes) noProgression {n = k} (omega arith))
+  pub wanted-up-to : allBelow (λ k. wantsOwn (orderOf (changeOf st k .prg))) (min (st .progressions) 32) ≡ allWantOwn st
+  unfolding allWantOwn
+  wanted-up-to = up-to (λ q. wantsOwn (orderOf (q .prg))) refl
+
+  pub fit-up-to : (l : List Bool) → allBelow (λ k. rangeFits st l (changeOf st k)) (min (st .progressions) 32) ≡ rangesFit st l
+  unfolding rangesFit
+  fit-up-to l = up-to (rangeFits st l) refl

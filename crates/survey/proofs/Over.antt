@@ -57,6 +57,10 @@ tileOf st = record { x0 = st .tx0; y0 = st .ty0; x1 = st .tx1; y1 = st .ty1 }
 abbrev stepFits : Sheet → ℕ → ℕ → Bool
 stepFits s c r = leb (stepX s c r) 4294967295 && leb (stepY s c r) 4294967295
 
+-- those of a component
+abbrev pub fitsIn : Sheet → ℕ → Bool
+fitsIn s c = allBelow (stepFits s c) (resOf (s .st) c)
+
 -- the smallest step of a component, but for the largest 32-bit number
 abbrev pub leastIn : (ℕ → ℕ → ℕ) → State → ℕ → ℕ
 leastIn f st c = minBelow 4294967295 (f c) (resOf st c)
@@ -67,7 +71,7 @@ partSums s c =
     record {
       good = true;
       most = capped (maxBelow (precincts s c) (resOf (s .st) c));
-      fit = allBelow (stepFits s c) (resOf (s .st) c);
+      fit = fitsIn s c;
       «x_least» = leastIn (stepX s) (s .st) c;
       «y_least» = leastIn (stepY s) (s .st) c;
     }
@@ -77,7 +81,7 @@ sumsTo s k =
     record {
       good = true;
       most = capped (maxBelow (λ c. maxBelow (precincts s c) (resOf (s .st) c)) k);
-      fit = allBelow (λ c. allBelow (stepFits s c) (resOf (s .st) c)) k;
+      fit = allBelow (fitsIn s) k;
       «x_least» = minBelow 4294967295 (leastIn (stepX s) (s .st)) k;
       «y_least» = minBelow 4294967295 (leastIn (stepY s) (s .st)) k;
     }
@@ -89,7 +93,7 @@ sums-none s = rw (max-none, all-none, min-none, min-none)
 pub sums-more : (s : Sheet) (c : ℕ) → joinedSums (sumsTo s c) (partSums s c) ≡ sumsTo s (c + 1)
 unfolding sumsTo
 sums-more s c =
-    rw (capped-max (maxBelow (λ c. maxBelow (precincts s c) (resOf (s .st) c)) c) (maxBelow (precincts s c) (resOf (s .st) c)), max-more (λ c. maxBelow (precincts s c) (resOf (s .st) c)) c, all-next (λ c. allBelow (stepFits s c) (resOf (s .st) c)) c, min-more 4294967295 (leastIn (stepX s) (s .st)) c, min-more 4294967295 (leastIn (stepY s) (s .st)) c)
+    rw (capped-max (maxBelow (λ c. maxBelow (precincts s c) (resOf (s .st) c)) c) (maxBelow (precincts s c) (resOf (s .st) c)), max-more (λ c. maxBelow (precincts s c) (resOf (s .st) c)) c, all-next (fitsIn s) c, min-more 4294967295 (leastIn (stepX s) (s .st)) c, min-more 4294967295 (leastIn (stepY s) (s .st)) c)
 
 -- what the pass over a component gives
 pub component-is : (e : List ℕ) (q : ℕ → ℕ → ℕ) (check : Bool) (st : State) (c : ℕ)
@@ -104,7 +108,7 @@ component-is e q check st c =
     (record {
       good = true;
       most = capped m;
-      fit = allBelow (stepFits (sheetOver e q st) c) (resOf st c);
+      fit = fitsIn (sheetOver e q st) c;
       «x_least» = leastIn (stepX (sheetOver e q st)) st c;
       «y_least» = leastIn (stepY (sheetOver e q st)) st c;
     })

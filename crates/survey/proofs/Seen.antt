@@ -20,40 +20,42 @@ use Rattle.survey.specs.declared.sums.Sums.{Sums}
 use Rattle.survey.specs.declared.places.Places.{Places}
 use Rattle.survey.specs.Ranges.{in-range}
 use Rattle.survey.proofs.Bases.{placeIn, placesAt, Small, places-none, places-more, apart-small, places-are}
-use Rattle.survey.proofs.Over.{sheetOver, rangedAt, fineAt, goodOver, foundOver, survey-over, tileOf, leastIn, partSums, sumsTo, sums-none, sums-more, component-is}
+use Rattle.survey.proofs.Over.{sheetOver, rangedAt, fineAt, goodOver, foundOver, survey-over, tileOf, fitsIn, leastIn, partSums, sumsTo, sums-none, sums-more, component-is}
 
 -- the sheet whose exponents stand at these places
 abbrev pub sheetBy : List ℕ → Places → State → Sheet
 sheetBy e p st = sheetOver e (placeIn p st) st
 
 -- a list that holds f 0, f 1, .. f (c - 1)
-abbrev Holds : (ℕ → ℕ) → ℕ → List ℕ → Type 0
-Holds f c l = (k : ℕ) → k < c → getD l k 0 ≡ f k
+abbrev Holds : {A : Type 0} → A → (ℕ → A) → ℕ → List A → Type 0
+Holds d f c l = (k : ℕ) → k < c → getD l k d ≡ f k
 
-holds-more : (f : ℕ → ℕ) (c : ℕ) (l : List ℕ) (v : ℕ) → c < length l → Holds f c l → v ≡ f c → Holds f (c + 1) (set l c v)
-holds-more f c l v long h e k b =
+holds-more : {A : Type 0} (z : A) (f : ℕ → A) (c : ℕ) (l : List A) (v : A) → c < length l → Holds z f c l → v ≡ f c → Holds z f (c + 1) (set l c v)
+holds-more z f c l v long h e k b =
     ⊎-elim
-    (λ (d : c ≤ k). let same : k ≡ c = omega arith in rw same (getD-set-same l c v 0 long ∙ e))
-    (λ (d : k < c). let other : k ≡ c → ⊥ = λ z. differs k c d z in getD-set-other l c k v 0 other ∙ h k d)
+    (λ (d : c ≤ k). let same : k ≡ c = omega arith in rw same (getD-set-same l c v z long ∙ e))
+    (λ (d : k < c). let other : k ≡ c → ⊥ = differs k c d in getD-set-other l c k v z other ∙ h k d)
     (le-or-lt c k)
   where
     differs : (k c : ℕ) → k < c → k ≡ c → ⊥
     differs k c d z = omega arith
 
 -- after c components the next stands at the places `here`, and everything before was good
-pub record Seen (e : List ℕ) (p : Places) (check : Bool) (st : State) (here : Places) (all : Sums) (deep : ℕ) (xs ys : List ℕ) (c : ℕ) : Type 0 where
+pub record Seen (e : List ℕ) (p : Places) (check : Bool) (st : State) (here : Places) (all : Sums) (deep : ℕ) (fits : List Bool) (xs ys : List ℕ) (c : ℕ) : Type 0 where
   pub at : here ≡ placesAt p st c
   pub near : here .first ≤ 68 + 1088 * c
   pub ranged : allBelow (rangedAt st) c ≡ true
   pub fine : allBelow (fineAt e (placeIn p st) st check) c ≡ true
   pub sums : all ≡ sumsTo (sheetBy e p st) c
   pub deepest : deep ≡ maxBelow (resOf st) c
+  pub long : length fits ≡ 16
   pub long-x : length xs ≡ 16
   pub long-y : length ys ≡ 16
-  pub least-x : Holds (leastIn (stepX (sheetBy e p st)) st) c xs
-  pub least-y : Holds (leastIn (stepY (sheetBy e p st)) st) c ys
+  pub fit : Holds false (fitsIn (sheetBy e p st)) c fits
+  pub least-x : Holds 0 (leastIn (stepX (sheetBy e p st)) st) c xs
+  pub least-y : Holds 0 (leastIn (stepY (sheetBy e p st)) st) c ys
 
-pub seen-none : (e : List ℕ) (p : Places) (check : Bool) (st : State) → Small p → Seen e p check st p startSums 0 (replicate 16 0) (replicate 16 0) 0
+pub seen-none : (e : List ℕ) (p : Places) (check : Bool) (st : State) → Small p → Seen e p check st p startSums 0 (replicate 16 false) (replicate 16 0) (replicate 16 0) 0
 seen-none e p check st small =
     let f = small .first in
     record {
@@ -63,18 +65,20 @@ seen-none e p check st small =
       fine = all-none (fineAt e (placeIn p st) st check);
       sums = sym (sums-none (sheetBy e p st));
       deepest = sym (max-none (resOf st));
+      long = refl;
       long-x = refl;
       long-y = refl;
+      fit = λ k h. absurd (let z : ⊥ = omega arith in z);
       least-x = λ k h. omega arith;
       least-y = λ k h. omega arith;
     }
 
-pub apart-near : {e : List ℕ} {p : Places} {check : Bool} {st : State} {here : Places} {all : Sums} {deep : ℕ} {xs ys : List ℕ} {c : ℕ}
-    → Seen e p check st here all deep xs ys c → Small p → here .apart ≤ 32
+pub apart-near : {e : List ℕ} {p : Places} {check : Bool} {st : State} {here : Places} {all : Sums} {deep : ℕ} {fits : List Bool} {xs ys : List ℕ} {c : ℕ}
+    → Seen e p check st here all deep fits xs ys c → Small p → here .apart ≤ 32
 apart-near s small = rw (s .at) (small .apart)
 
-module _ {e : List ℕ} {p : Places} {check : Bool} {st : State} {here : Places} {all : Sums} {deep : ℕ} {xs ys : List ℕ} {c : ℕ}
-    (s : Seen e p check st here all deep xs ys c) {one : Sums}
+module _ {e : List ℕ} {p : Places} {check : Bool} {st : State} {here : Places} {all : Sums} {deep : ℕ} {fits : List Bool} {xs ys : List ℕ} {c : ℕ}
+    (s : Seen e p check st here all deep fits xs ys c) {one : Sums}
     (is : one ≡ componentSums e (exponentsAt here) check (tileOf st) (dxOf st c) (dyOf st c) (resOf st c)) where
   -- the component's sums, by what it is
   part : one ≡ cond (rangedAt st c && fineAt e (placeIn p st) st check c) (partSums (sheetBy e p st) c) noSums
@@ -90,7 +94,7 @@ module _ {e : List ℕ} {p : Places} {check : Bool} {st : State} {here : Places}
   levels-few g = in-range (dxOf st c) (dyOf st c) (resOf st c) (both g .0) .n-high
 
   pub seen-more : Small p → c < 16 → one .good ≡ true
-      → Seen e p check st (placesAfter here (resOf st c)) (joinedSums all one) (max deep (resOf st c)) (set xs c (one .«x_least»)) (set ys c (one .«y_least»)) (c + 1)
+      → Seen e p check st (placesAfter here (resOf st c)) (joinedSums all one) (max deep (resOf st c)) (set fits c (one .fit)) (set xs c (one .«x_least»)) (set ys c (one .«y_least»)) (c + 1)
   seen-more small h g =
       let w = both g in
       let r = in-range (dxOf st c) (dyOf st c) (resOf st c) (w .0) in
@@ -99,6 +103,7 @@ module _ {e : List ℕ} {p : Places} {check : Bool} {st : State} {here : Places}
       let b : here .between ≤ 32 = rw (s .at) (small .between) in
       let near = s .near in
       let high = r .n-high in
+      let z = s .long in
       let x = s .long-x in
       let y = s .long-y in
       record {
@@ -108,10 +113,12 @@ module _ {e : List ℕ} {p : Places} {check : Bool} {st : State} {here : Places}
         fine = all-more (fineAt e (placeIn p st) st check) c (s .fine) (w .1);
         sums = rw (s .sums, is-part) (sums-more (sheetBy e p st) c);
         deepest = rw (max-more (resOf st) c, s .deepest);
+        long = length-set fits c (one .fit) ∙ z;
         long-x = length-set xs c (one .«x_least») ∙ x;
         long-y = length-set ys c (one .«y_least») ∙ y;
-        least-x = holds-more (leastIn (stepX (sheetBy e p st)) st) c xs (one .«x_least») (omega arith) (s .least-x) (ap (λ (a : Sums). a .«x_least») is-part);
-        least-y = holds-more (leastIn (stepY (sheetBy e p st)) st) c ys (one .«y_least») (omega arith) (s .least-y) (ap (λ (a : Sums). a .«y_least») is-part);
+        fit = holds-more false (fitsIn (sheetBy e p st)) c fits (one .fit) (omega arith) (s .fit) (ap (λ (a : Sums). a .fit) is-part);
+        least-x = holds-more 0 (leastIn (stepX (sheetBy e p st)) st) c xs (one .«x_least») (omega arith) (s .least-x) (ap (λ (a : Sums). a .«x_least») is-part);
+        least-y = holds-more 0 (leastIn (stepY (sheetBy e p st)) st) c ys (one .«y_least») (omega arith) (s .least-y) (ap (λ (a : Sums). a .«y_least») is-part);
       }
 
   -- the next place is near

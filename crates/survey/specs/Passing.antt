@@ -4,17 +4,19 @@ use Prim.Native.Nat.{ℕ, _+_, _-_, _*_, _%_, _^_, min, max}
 use mathlib.Core.Bool.{Bool, true, false, cond, _&&_, _||_, not}
 use mathlib.Core.List.{List}
 use lib.ListN.{getD}
-use lib.Dec.{leb, eqb}
+use lib.Dec.{ltb, leb, eqb}
 use Rattle.laws.specs.Below.{allBelow, maxBelow, minBelow}
 use Rattle.words.specs.Words.{wordAt}
 use Rattle.geometry.specs.Axis.{axisOf, resolutionOf, columnsOf}
 use Rattle.geometry.specs.declared.axis.Axis.{Axis}
 use Rattle.geometry.specs.declared.tile.Area.{Area}
 use Rattle.types.specs.Ranges.{exponentRange, componentRange}
-use Rattle.types.specs.Orders.{orderOf}
+use Rattle.types.specs.Orders.{orderOf, rangeOf, componentsGood}
 use Rattle.types.specs.declared.order.Order.{Order}
 use Rattle.types.specs.declared.order.Order.the-variants.{Lrcp as lrcp, Rlcp as rlcp, Rpcl as rpcl, Pcrl as pcrl, Cprl as cprl, NoPositions as other}
+use Rattle.types.specs.declared.order.Range.{Range}
 use Rattle.packets.specs.Grid.{changeOf}
+use Rattle.types.specs.declared.state.Progression.{Progression}
 use Rattle.types.specs.declared.state.State.{State}
 use Rattle.types.specs.declared.table.Entry.{Entry}
 use Rattle.survey.specs.Capped.{capped}
@@ -120,7 +122,8 @@ exponentsAt p r = p .first + p .apart * r
 abbrev pub placesAfter : Places → ℕ → Places
 placesAfter p n = record { first = p .first + (p .apart * n + p .between); apart = p .apart; between = p .between }
 
--- THE GRID: 1 for an order that wants steps that fit 32 bits, 2 for one that wants a smallest that divides too
+-- THE GRID (01, 'Agreed grid', and 02, P5): 1 for an order that wants the steps of the components in its range to fit 32 bits, 2 for one that wants those of
+-- all to fit, and a smallest that divides too
 abbrev pub wantOf : Order → ℕ
 wantOf lrcp = 0
 wantOf rlcp = 0
@@ -129,18 +132,33 @@ wantOf pcrl = 2
 wantOf cprl = 1
 wantOf other = 0
 
-unfoldable pub wantedOf : State → ℕ
-wantedOf st = maxBelow (λ k. wantOf (orderOf (changeOf st k .prg))) (st .progressions)
+-- no progression wants something of other components than its own
+abbrev pub wantsOwn : Order → Bool
+wantsOwn o = ltb (wantOf o) 2
+
+unfoldable pub allWantOwn : State → Bool
+allWantOwn st = allBelow (λ k. wantsOwn (orderOf (changeOf st k .prg))) (st .progressions)
 
 unfoldable pub multiples : List ℕ → ℕ → ℕ → Bool
 multiples l n m = allBelow (λ c. eqb (getD l c 0 % m) 0) n
 
--- what is wanted holds of steps that fit, or that divide
-abbrev pub hasWanted : ℕ → Bool → Bool → Bool
-hasWanted wanted fit divide = eqb wanted 0 || (fit && (eqb wanted 1 || divide))
+-- by a list that says of each component whether its steps fit: those from c0 up to c1 do; those in a range do, where an order wants it; and so it is for
+-- every progression
+unfoldable pub fitBetween : List Bool → ℕ → ℕ → Bool
+fitBetween l c0 c1 = allBelow (λ i. getD l (c0 + i) false) (c1 - c0)
 
-unfoldable pub agreedOf : ℕ → Bool → List ℕ → ℕ → List ℕ → ℕ → ℕ → Bool
-agreedOf wanted fit xs x ys y n = hasWanted wanted fit (multiples xs n x && multiples ys n y)
+abbrev pub ownFit : State → List Bool → Range → Order → Bool
+ownFit st l g o = not (eqb (wantOf o) 1 && componentsGood st g) || fitBetween l (g .compno0) (g .compno1)
+
+abbrev pub rangeFits : State → List Bool → Progression → Bool
+rangeFits st l q = ownFit st l (rangeOf st q) (orderOf (q .prg))
+
+unfoldable pub rangesFit : State → List Bool → Bool
+rangesFit st l = allBelow (λ k. rangeFits st l (changeOf st k)) (st .progressions)
+
+unfoldable pub agreedOf : State → Bool → List Bool → List ℕ → ℕ → List ℕ → ℕ → Bool
+agreedOf st fit fits xs x ys y =
+    cond (allWantOwn st) (fit || rangesFit st fits) (fit && (multiples xs (st .components) x && multiples ys (st .components) y))
 
 -- MARKS
 abbrev pub neededOf : ℕ → ℕ → ℕ → ℕ → ℕ
@@ -154,12 +172,12 @@ marksOf layers res components prec =
       «max_prec» = cond (leb (neededOf layers res components prec) 65536) prec 0;
     }
 
--- FINDINGS, from the sums of all components and the smallest steps of each
-unfoldable pub findingsOf : ℕ → ℕ → ℕ → ℕ → Sums → List ℕ → List ℕ → Findings
-findingsOf wanted layers components res all xs ys =
+-- FINDINGS, from the sums of all components and whether the grid is agreed
+unfoldable pub findingsOf : Bool → ℕ → ℕ → ℕ → Sums → Findings
+findingsOf grid layers components res all =
     record {
       good = true;
-      grid = agreedOf wanted (all .fit) xs (all .«x_least») ys (all .«y_least») components;
+      grid = grid;
       few = marksOf layers res components (all .most) .few;
       needed = marksOf layers res components (all .most) .needed;
       «max_prec» = marksOf layers res components (all .most) .«max_prec»;

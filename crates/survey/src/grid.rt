@@ -1,12 +1,15 @@
-// Whether the grid is agreed (01, 'Agreed grid'): what the orders of the progressions want of the steps, and whether the steps have it.
+// Whether the grid is agreed (01, 'Agreed grid', and 02, P5): what the progressions want of the steps, and whether the steps have it.
 use geometry::math;
 use types::order::Order;
+use types::order::Range;
+use types::state::Progression;
 use types::state::State;
 ghost use mathlib.Core.Path.{_≡_};
 ghost use Prim.Native.Nat.{_≤_, _<_};
-ghost use Rattle.survey.specs.Passing.{wantOf, wantedOf, multiples, agreedOf};
+ghost use Rattle.survey.specs.Passing.{wantOf, allWantOwn, multiples, fitBetween, rangeFits, rangesFit, agreedOf};
 
-// What an order wants: 1 that every step fits 32 bits, 2 that the smallest also divides every other.
+// Whose steps an order wants to fit 32 bits: 0 no one's, 1 those of the components in its range, 2 those of all components, and that the smallest also divides
+// every other.
 fn want(order: Order) -> u32
     ensures { λ r. ⌜ r ≡ wantOf order ⌝ }
 {
@@ -20,19 +23,21 @@ fn want(order: Order) -> u32
     }
 }
 
-// The most that a progression of st wants.
-pub(crate) fn wanted(st: State) -> u32
-    ensures { λ r. ⌜ r ≡ wantedOf st ⌝ }
+// No progression of st wants something of other components than its own.
+fn all_want_own(st: State) -> bool
+    ensures { λ r. ⌜ r ≡ allWantOwn st ⌝ }
 {
     let n = math::uint_min(st.progressions, State::MAX_PROGRESSIONS) as usize;
-    let mut most: u32 = 0;
     let mut k: usize = 0;
     while k < n {
         let p = st.changes[k];
-        most = math::uint_max(most, want(Order::of(p.prg)));
-        k += 1;
+        if want(Order::of(p.prg)) < 2 {
+            k += 1;
+        } else {
+            return false;
+        }
     }
-    most
+    true
 }
 
 // The first n numbers are multiples of m.
@@ -51,29 +56,79 @@ fn all_multiples(numbers: &[u32; State::COMPONENT_PLACES], n: usize, m: u32) -> 
     true
 }
 
-// The steps have what is wanted of them: whether all fit, and on each axis the smallest of each of n components and of all. Within a component every
-// step is its own times a power of two, so that the smallest divides the others: one number a component is enough.
+// The components from c0 up to c1 have steps that fit.
+fn fit_between(fits: &[bool; State::COMPONENT_PLACES], c0: usize, c1: usize) -> bool
+    requires { ⌜ c1 ≤ 16 ⌝ }
+    ensures { λ r. ⌜ r ≡ fitBetween (now (fits .entry)) c0 c1 ⌝ }
+{
+    let mut c = c0;
+    while c < c1 {
+        if fits[c] {
+            c += 1;
+        } else {
+            return false;
+        }
+    }
+    true
+}
+
+// Those in the range of progression q have, where it wants it.
+fn range_fits(st: State, q: Progression, fits: &[bool; State::COMPONENT_PLACES]) -> bool
+    requires { ⌜ st .components ≤ 16 ⌝ }
+    ensures { λ r. ⌜ r ≡ rangeFits st (now (fits .entry)) q ⌝ }
+{
+    let order = Order::of(q.prg);
+    if want(order) == 1 {
+        let g = Range::of(st, q);
+        if g.components_good(st) {
+            return fit_between(fits, g.compno0 as usize, g.compno1 as usize);
+        }
+    }
+    true
+}
+
+// So it is for every progression of st.
+fn ranges_fit(st: State, fits: &[bool; State::COMPONENT_PLACES]) -> bool
+    requires { ⌜ st .components ≤ 16 ⌝ }
+    ensures { λ r. ⌜ r ≡ rangesFit st (now (fits .entry)) ⌝ }
+{
+    let n = math::uint_min(st.progressions, State::MAX_PROGRESSIONS) as usize;
+    let mut k: usize = 0;
+    while k < n {
+        let p = st.changes[k];
+        if range_fits(st, p, fits) {
+            k += 1;
+        } else {
+            return false;
+        }
+    }
+    true
+}
+
+// The steps have what the progressions of st want: whether all fit, and those of each component, and on each axis the smallest of each component and of all.
+// Within a component every step is its own times a power of two, so that the smallest divides the others: one number a component is enough.
 pub(crate) fn agreed(
-    wanted: u32,
+    st: State,
     fit: bool,
+    fits: &[bool; State::COMPONENT_PLACES],
     xs: &[u32; State::COMPONENT_PLACES],
     x: u32,
     ys: &[u32; State::COMPONENT_PLACES],
     y: u32,
-    n: usize,
 ) -> bool
-    requires { ⌜ (n ≤ 16) × (0 < x) × (0 < y) ⌝ }
-    ensures { λ r. ⌜ r ≡ agreedOf wanted fit (now (xs .entry)) x (now (ys .entry)) y n ⌝ }
+    requires { ⌜ (st .components ≤ 16) × (0 < x) × (0 < y) ⌝ }
+    ensures { λ r. ⌜ r ≡ agreedOf st fit (now (fits .entry)) (now (xs .entry)) x (now (ys .entry)) y ⌝ }
 {
-    if wanted == 0 {
-        return true;
+    if all_want_own(st) {
+        if fit {
+            return true;
+        }
+        return ranges_fit(st, fits);
     }
     if !fit {
         return false;
     }
-    if wanted == 1 {
-        return true;
-    }
+    let n = st.components as usize;
     let along = all_multiples(xs, n, x);
     let down = all_multiples(ys, n, y);
     along & down

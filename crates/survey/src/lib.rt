@@ -17,7 +17,6 @@ use geometry::math;
 use geometry::tile::Area;
 use types::state::State;
 ghost use mathlib.Core.Path.{_≡_};
-ghost use Prim.Native.Nat.{_≤_, _<_};
 ghost use Rattle.packets.specs.Table.{tableWords};
 ghost use Rattle.survey.specs.Survey.{sheetFrom, noSurvey, surveyOf, keptOf};
 ghost use Rattle.survey.specs.Kept.{Keeps};
@@ -61,31 +60,14 @@ impl Findings {
         }
     }
 
-    // What the sums of all components say, with the smallest steps of each.
-    fn of(
-        wanted: u32,
-        layers: u32,
-        components: u32,
-        res: u32,
-        all: Sums,
-        xs: &[u32; State::COMPONENT_PLACES],
-        ys: &[u32; State::COMPONENT_PLACES],
-    ) -> Self
-        requires { ⌜ (components ≤ 16) × (0 < all .«x_least») × (0 < all .«y_least») ⌝ }
-        ensures { λ r. ⌜ r ≡ findingsOf wanted layers components res all (now (xs .entry)) (now (ys .entry)) ⌝ }
+    // What the sums of all components say, with whether the grid is agreed.
+    fn of(grid: bool, layers: u32, components: u32, res: u32, all: Sums) -> Self
+        ensures { λ r. ⌜ r ≡ findingsOf grid layers components res all ⌝ }
     {
         let marks = Marks::of(layers, res, components, all.most);
         Findings {
             good: true,
-            grid: grid::agreed(
-                wanted,
-                all.fit,
-                xs,
-                all.x_least,
-                ys,
-                all.y_least,
-                components as usize,
-            ),
+            grid,
             few: marks.few,
             needed: marks.needed,
             max_prec: marks.max_prec,
@@ -115,7 +97,8 @@ fn passed(e: &[u8], at: Source, check: bool, st: State, kept: &mut [u32]) -> Fin
     let mut to: usize = 0;
     let mut all = Sums::start();
     let mut max_res: u32 = 0;
-    // the smallest steps of each component
+    // of each component, whether its steps fit, and the smallest
+    let mut fits = [false; State::COMPONENT_PLACES];
     let mut xs = [0u32; State::COMPONENT_PLACES];
     let mut ys = [0u32; State::COMPONENT_PLACES];
     let mut c: usize = 0;
@@ -129,6 +112,7 @@ fn passed(e: &[u8], at: Source, check: bool, st: State, kept: &mut [u32]) -> Fin
         if one.good {
             all = all.joined(one);
             max_res = math::uint_max(max_res, comp.resolutions);
+            fits[c] = one.fit;
             xs[c] = one.x_least;
             ys[c] = one.y_least;
             places = places.after(comp.resolutions);
@@ -138,8 +122,8 @@ fn passed(e: &[u8], at: Source, check: bool, st: State, kept: &mut [u32]) -> Fin
             return Findings::none();
         }
     }
-    let wanted = grid::wanted(st);
-    Findings::of(wanted, st.layers, st.components, max_res, all, &xs, &ys)
+    let agreed = grid::agreed(st, all.fit, &fits, &xs, all.x_least, &ys, all.y_least);
+    Findings::of(agreed, st.layers, st.components, max_res, all)
 }
 
 // Surveys the components of st with the exponents that stand in e; with check, also that the sizes after them are right. The words of the table that they

@@ -49,8 +49,8 @@ module _ (st : State) (table marks : List ℕ) (w : Sound st table marks) where
   sound-filled old prep done clear x y =
       record { filled = all-filled st old prep table (w .tile .components .1) done clear; ends-x = x; ends-y = y }
 
-  -- THEN ANY RANGE IS IN PLAY whose steps fit, as an agreed grid says
-  pub sound-play : (prep : List ℕ) (r0 r1 c0 c1 : ℕ) → StepsFit (sheetAt st table) → AllFilled st table prep → r1 ≤ 33 → c1 ≤ st .components
+  -- THEN A RANGE IS IN PLAY whose components' steps fit, as an agreed grid says; what is prepared of other components is never read
+  pub sound-play : (prep : List ℕ) (r0 r1 c0 c1 : ℕ) → StepsFit (sheetAt st table) c0 c1 → AllFilled st table prep → r1 ≤ 33 → c1 ≤ st .components
       → InPlay (sheetAt st table) prep r0 r1 c0 c1
   sound-play prep r0 r1 c0 c1 fits p a b =
       record {
@@ -58,7 +58,7 @@ module _ (st : State) (table marks : List ℕ) (w : Sound st table marks) where
         resolutions = a;
         components = omega (arith, w .tile .components .1);
         known = b;
-        entry = λ r c h k i j. p .filled c r (omega arith) (λ z. fits c (omega arith) r (precincts-in (sheetAt st table) c r z));
+        entry = λ r c h k i j. p .filled c r (omega arith) (λ z. fits c (omega arith) (omega arith) r (precincts-in (sheetAt st table) c r z));
         few = λ r c h k i j. few-precincts st table marks w c r (omega arith);
         ends-x = p .ends-x;
         ends-y = p .ends-y;

@@ -16,12 +16,20 @@ const NOTHING: Lent = Lent { table: 0, marks: 0, output: NO_LIMIT };
 const SHORT: usize = 256;
 const OFTEN: usize = 8;
 
+pub fn cases() -> Vec<Vec<u8>> {
+    cases_of(limits::sheets())
+}
+
+pub fn cases_beside_wide() -> Vec<Vec<u8>> {
+    cases_of(limits::sheets_beside_wide())
+}
+
 /// A refused sheet with plenty lent or nothing, by turns; an accepted one with what it needs, and some with
 /// too little.
-pub fn cases() -> Vec<Vec<u8>> {
+fn cases_of(sheets: Vec<Vec<u8>>) -> Vec<Vec<u8>> {
     let mut cases = Vec::new();
     let mut accepted = 0;
-    for (place, sheet) in limits::sheets().into_iter().enumerate() {
+    for (place, sheet) in sheets.into_iter().enumerate() {
         let answer = model::run(&sheet, Points::Candidates);
         let needs = match &answer {
             Ok(answer) => Lent { output: NO_LIMIT, ..answer.needs() },

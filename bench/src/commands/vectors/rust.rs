@@ -10,6 +10,7 @@ use crate::compare::{self, Tally};
 use crate::domain;
 use crate::generate;
 use crate::model;
+use crate::random::Random;
 
 /// Of the file's cases.
 pub const SHEET: u32 = 1;
@@ -20,6 +21,8 @@ const SEED: u64 = 2000;
 /// Sheets of each order, alone; and sheets with several progressions.
 const SHEETS_OF_AN_ORDER: usize = 46;
 const SHEETS_OF_SEVERAL: usize = 70;
+const SEED_BESIDE_WIDE: u64 = 2001;
+const SHEETS_BESIDE_WIDE: usize = 40;
 const BOUNDS: u64 = 500;
 const OPERATIONS: u64 = 500;
 /// No stored sheet is larger than this.
@@ -28,11 +31,22 @@ const MOST_PACKETS: usize = 96;
 const MOST_MARKS: usize = 2048;
 
 pub fn sheets() -> Result<Vec<Vec<u8>>, String> {
-    let case = |sheet: &Sheet| {
-        compare::sheet(&sheet.bytes(), &mut Tally::default())?;
-        sheet_answer(sheet)
-    };
     sample().iter().map(case).collect()
+}
+
+/// Sheets with progressions of order 4 beside a component with steps of more than 32 bits, of which none asks.
+pub fn sheets_beside_wide() -> Result<Vec<Vec<u8>>, String> {
+    (0..)
+        .map(|place| generate::sheets::beside_wide(&mut Random::at(SEED_BESIDE_WIDE, place)))
+        .filter(|sheet| sheet.progressions.orders().contains(&4) && fits(sheet, 1))
+        .take(SHEETS_BESIDE_WIDE)
+        .map(|sheet| case(&sheet))
+        .collect()
+}
+
+fn case(sheet: &Sheet) -> Result<Vec<u8>, String> {
+    compare::sheet(&sheet.bytes(), &mut Tally::default())?;
+    sheet_answer(sheet)
 }
 
 pub fn tile_bounds() -> Vec<Vec<u8>> {

@@ -12,6 +12,7 @@ use crate::random::Random;
 pub const KIND: u32 = 5;
 
 const SEED: u64 = 3000;
+const SEED_BESIDE_WIDE: u64 = 3001;
 /// Sheets of each order, alone; and sheets with several progressions.
 const SHEETS_OF_AN_ORDER: usize = 5;
 const SHEETS_OF_SEVERAL: usize = 12;
@@ -29,9 +30,24 @@ const FRESH: u32 = 15;
 const ENDED: u32 = 16;
 
 pub fn cases() -> Vec<Vec<u8>> {
-    let random = &mut Random::at(SEED, 0);
+    cases_of(SEED, known().into_iter().chain(sample()))
+}
+
+/// Sheets with steps of more than 32 bits in a component that no progression asks of.
+pub fn cases_beside_wide() -> Vec<Vec<u8>> {
+    let wide = format!("2 1 1 18, {}", "3 15 15,".repeat(18));
+    let luma = "2 1 1 2, 3 1 1, 3 2 2,";
+    let words = [
+        format!("1 0 0 8 4 1 2 1, {luma} {wide} 4 4 0 0 1 33 1"),
+        format!("1 1 0 9 4 1 2 2, {wide} {luma} 4 4 1 1 1 2 2, 4 4 0 1 1 33 2"),
+    ];
+    cases_of(SEED_BESIDE_WIDE, words.map(|words| model::read(&from_words(&words).unwrap()).unwrap()))
+}
+
+fn cases_of(seed: u64, sheets: impl IntoIterator<Item = Sheet>) -> Vec<Vec<u8>> {
+    let random = &mut Random::at(seed, 0);
     let mut cases = Vec::new();
-    for sheet in known().into_iter().chain(sample()) {
+    for sheet in sheets {
         let steps = Steps::of(sheet.clone()).unwrap();
         let clear = vec![0; steps.marks_needed()];
         let mixed: Vec<u8> = clear.iter().map(|_| random.one_of(&[0, 0, 0, 1, 2, 255])).collect();

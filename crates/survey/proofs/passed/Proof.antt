@@ -17,11 +17,11 @@ use Rattle.survey.proofs.passed.Statement.{statement}
 use Rattle.survey.proofs.passed.Tie as tie
 
 abbrev Inv-loop : tie.InvT-loop
-Inv-loop e check kept₀ st n tile places₀ to₀ all₀ max-res₀ xs₀ ys₀ c₀ kept places to all max-res xs ys c =
-    (c ≤ n) × Seen e places₀ check st places all max-res xs ys c × KeptTo e places₀ st kept₀ to kept c
+Inv-loop e check kept₀ st n tile places₀ to₀ all₀ max-res₀ fits₀ xs₀ ys₀ c₀ kept places to all max-res fits xs ys c =
+    (c ≤ n) × Seen e places₀ check st places all max-res fits xs ys c × KeptTo e places₀ st kept₀ to kept c
 
 abbrev μ-loop : tie.MeasureT-loop
-μ-loop e check kept₀ st n tile places₀ to₀ all₀ max-res₀ xs₀ ys₀ c₀ kept places to all max-res xs ys c = n - c
+μ-loop e check kept₀ st n tile places₀ to₀ all₀ max-res₀ fits₀ xs₀ ys₀ c₀ kept places to all max-res fits xs ys c = n - c
 
 -- from a component's answer back to its turn of the loop, and from there to where the places were made and to the start
 abbrev turn : tie.After-component Inv-loop μ-loop → tie.In-loop Inv-loop μ-loop
@@ -52,7 +52,7 @@ module _ (c : tie.After-loop Inv-loop μ-loop) where
   seen :
       let l = c .before .loop in
       let a = c .before .before .before .before .before .before .before .args in
-      Seen (a .e .now) (c .before .before .before .of .result) (a .check) (a .t4) (l .places) (l .all) (l .max-res) (l .xs) (l .ys) (a .t4 .components)
+      Seen (a .e .now) (c .before .before .before .of .result) (a .check) (a .t4) (l .places) (l .all) (l .max-res) (l .fits) (l .xs) (l .ys) (a .t4 .components)
   seen = rw all-passed at (c .before .loop .inv .1)
 
 none-requires : tie.Need-none-requires Inv-loop μ-loop
@@ -82,23 +82,23 @@ loop-holds c =
       kept-none (a .e .now) (c .before .of .result) (a .t4) (now (a .kept)),
     )
 
-mul-t25 : tie.Need-mul-t25 Inv-loop μ-loop
-mul-t25 c = omega arith
+mul-t26 : tie.Need-mul-t26 Inv-loop μ-loop
+mul-t26 c = omega arith
 
-element-copy-out-t28 : tie.Need-element-copy-out-t28 Inv-loop μ-loop
-element-copy-out-t28 c = omega arith
+element-copy-out-t29 : tie.Need-element-copy-out-t29 Inv-loop μ-loop
+element-copy-out-t29 c = omega arith
 
-mul-t29 : tie.Need-mul-t29 Inv-loop μ-loop
-mul-t29 c = omega arith
+mul-t30 : tie.Need-mul-t30 Inv-loop μ-loop
+mul-t30 c = omega arith
 
-element-copy-out-t32 : tie.Need-element-copy-out-t32 Inv-loop μ-loop
-element-copy-out-t32 c = omega arith
+element-copy-out-t33 : tie.Need-element-copy-out-t33 Inv-loop μ-loop
+element-copy-out-t33 c = omega arith
 
-mul-t33 : tie.Need-mul-t33 Inv-loop μ-loop
-mul-t33 c = omega arith
+mul-t34 : tie.Need-mul-t34 Inv-loop μ-loop
+mul-t34 c = omega arith
 
-element-copy-out-t36 : tie.Need-element-copy-out-t36 Inv-loop μ-loop
-element-copy-out-t36 c = omega arith
+element-copy-out-t37 : tie.Need-element-copy-out-t37 Inv-loop μ-loop
+element-copy-out-t37 c = omega arith
 
 component-requires : tie.Need-component-requires Inv-loop μ-loop
 component-requires c κs =
@@ -112,6 +112,9 @@ joined-requires c κs = search needs
 
 uint-max-requires : tie.Need-uint-max-requires Inv-loop μ-loop
 uint-max-requires c κs = search needs
+
+array-write-fits : tie.Need-array-write-fits Inv-loop μ-loop
+array-write-fits c = omega arith
 
 mul-xs : tie.Need-mul-xs Inv-loop μ-loop
 mul-xs c = omega arith
@@ -172,21 +175,25 @@ returns-2 c =
       keeps-none (now (a .kept)) _ 0 _ _ (ap (λ (f : Findings). f .good) (c .none2 .ensures)),
     )
 
-wanted-requires : tie.Need-wanted-requires Inv-loop μ-loop
-wanted-requires c κs = search needs
+agreed-requires : tie.Need-agreed-requires Inv-loop μ-loop
+agreed-requires c κs =
+    let s = seen (c .before .before .before) in
+    let few : c .before .before .before .before .before .before .before .before .before .before .args .t4 .components ≤ 16 = omega arith in
+    (few, above-x s, above-y s)
 
 of-requires-2 : tie.Need-of-requires-2 Inv-loop μ-loop
-of-requires-2 c κs = let s = seen (c .before .before .before) in (omega arith, above-x s, above-y s)
+of-requires-2 c κs = search needs
 
 same-length-2 : tie.Need-same-length-2 Inv-loop μ-loop
-same-length-2 c = omega (arith, kept-long (c .before .before .before .before .before .loop .inv .2))
+same-length-2 c = omega (arith, kept-long (c .before .before .before .before .before .before .loop .inv .2))
 
 returns-3 : tie.Need-returns-3 Inv-loop μ-loop
 returns-3 c =
-    let a = c .before .before .before .before .before .before .before .before .before .before .before .args in (
-      rw (c .of2 .ensures, c .before .before .before .wanted .ensures)
-          (found-is (seen (c .before .before .before .before)) (omega arith) ∙ sym (survey-in (a .e .now) (a .at) (a .check) (a .t4) (c .before .before .before .before .before .before .before .of .result) (c .before .before .before .before .before .before .before .of .ensures))),
-      λ g. kept-all (a .e .now) (a .at) (c .before .before .before .before .before .before .before .of .result) (a .t4) (now (a .kept)) (c .before .before .before .before .before .before .before .of .ensures) (all-passed (c .before .before .before .before)) (c .before .before .before .before .before .loop .inv .2),
+    let a = c .before .before .before .before .before .before .before .before .before .before .before .before .args in
+    let p = c .before .before .before .before .before .before .before .before .of in (
+      rw (c .of2 .ensures, c .before .agreed .ensures)
+          (found-is (seen (c .before .before .before .before .before)) (omega arith) ∙ sym (survey-in (a .e .now) (a .at) (a .check) (a .t4) (p .result) (p .ensures))),
+      λ g. kept-all (a .e .now) (a .at) (p .result) (a .t4) (now (a .kept)) (p .ensures) (all-passed (c .before .before .before .before .before)) (c .before .before .before .before .before .before .loop .inv .2),
     )
 
 pub passed-spec : {M : Type 1} → statement M
@@ -201,15 +208,16 @@ passed-spec =
     of-requires
     start-requires
     loop-holds
-    mul-t25
-    element-copy-out-t28
-    mul-t29
-    element-copy-out-t32
-    mul-t33
-    element-copy-out-t36
+    mul-t26
+    element-copy-out-t29
+    mul-t30
+    element-copy-out-t33
+    mul-t34
+    element-copy-out-t37
     component-requires
     joined-requires
     uint-max-requires
+    array-write-fits
     mul-xs
     array-write-xs
     mul-ys
@@ -224,7 +232,7 @@ passed-spec =
     none-requires-2
     same-length
     returns-2
-    wanted-requires
+    agreed-requires
     of-requires-2
     same-length-2
     returns-3)

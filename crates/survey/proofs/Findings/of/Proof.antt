@@ -7,9 +7,6 @@ use Rattle.survey.proofs.Findings.of.Tie as tie
 of-requires : tie.Need-of-requires
 of-requires c κs = search needs
 
-agreed-requires : tie.Need-agreed-requires
-agreed-requires c κs = search needs
-
 uint-min-requires : tie.Need-uint-min-requires
 uint-min-requires c κs = search needs
 
@@ -18,8 +15,8 @@ uint-min-requires-2 c κs = search needs
 
 returns : tie.Need-returns
 unfolding findingsOf
-returns c = rw (c .uint-min2 .ensures, c .before .uint-min .ensures, c .before .before .agreed .ensures, c .before .before .before .of .ensures)
+returns c = rw (c .uint-min2 .ensures, c .before .uint-min .ensures, c .before .before .of .ensures)
 
 pub of-spec : {M : Type 1} → statement M
 of-spec =
-    tie.close (tie.spec of-requires agreed-requires uint-min-requires uint-min-requires-2 returns)
+    tie.close (tie.spec of-requires uint-min-requires uint-min-requires-2 returns)
