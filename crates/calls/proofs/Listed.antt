@@ -1,15 +1,15 @@
 -- The tests of a position, in the order in which the code makes them, are true just where the progression lists it. Assumes nothing.
-use mathlib.Core.Path.{_≡_, refl, sym, ap, _∙_}
+use mathlib.Core.Path.{_≡_, refl, sym, _∙_}
 use mathlib.Core.Bool.{Bool, true, false, _&&_, true≢false}
 use mathlib.Core.List.{List, List·Memᴰ as In}
-use Prim.Native.Nat.{ℕ, _+_, _*_, _≤_, _<_}
+use Prim.Native.Nat.{ℕ, _≤_, _<_}
 use native.Mathlib.Omega.{arith}
 use lib.Dec.{ltb, leb}
 use Rattle.laws.specs.Cases.{and-true, and-both, split}
 use Rattle.laws.specs.Means.{Means, ltb-means, leb-means, eqb-means, means-by, and-means}
 use Rattle.laws.specs.Parts.{means-same, itself}
 use Rattle.geometry.specs.Line.{hitAt}
-use Rattle.packets.specs.Tile.{Sheet, lineX, lineY, width, precincts, resOf}
+use Rattle.packets.specs.Tile.{Sheet, lineX, lineY, precincts, resOf}
 use Rattle.types.specs.Orders.{byPoints, componentsGood}
 use Rattle.types.specs.declared.order.Order.{Order}
 use Rattle.types.specs.declared.order.Order.the-variants.{Lrcp as lrcp, Rlcp as rlcp, Rpcl as rpcl, Pcrl as pcrl, Cprl as cprl, NoPositions as other}

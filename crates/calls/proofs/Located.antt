@@ -1,15 +1,12 @@
 -- The rectangle of a precinct, as the axes answer it. Assumes nothing.
-use mathlib.Core.Path.{_≡_, refl}
-use mathlib.Core.Bool.{true}
+use mathlib.Core.Path.{_≡_}
 use mathlib.Core.List.{List}
 use Prim.Native.Nat.{ℕ, _/_, _%_, _<_}
 use Rattle.geometry.specs.Line.{low, high, count}
 use Rattle.geometry.specs.Axis.{cellOf}
 use Rattle.geometry.specs.Cells.{cell-inside}
-use Rattle.geometry.specs.declared.tile.Area.{Area}
 use Rattle.packets.specs.Tile.{Sheet, lineX, lineY, width, precincts, rectangle}
 use Rattle.packets.specs.Table.{sheetAt}
-use Rattle.packets.specs.Sound.{sheetSound}
 use Rattle.packets.specs.Rectangles.{column-row}
 use Rattle.types.specs.declared.state.State.{State}
 use Rattle.calls.specs.Reached.{sidesOf, areaOf}

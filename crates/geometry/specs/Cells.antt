@@ -1,6 +1,6 @@
 -- The precincts of an axis of a resolution, cell by cell: every sample lies in one and in no other, none is empty, and where a walk meets one it starts.
 -- Assumes nothing.
-use mathlib.Core.Path.{_≡_, sym, ap, _∙_}
+use mathlib.Core.Path.{_≡_, ap, _∙_}
 use mathlib.Core.Bool.{true}
 use mathlib.Core.Logic.{⊎-elim}
 use Prim.Native.Nat.{ℕ, _+_, _-_, _*_, _/_, _^_, min, max, _≤_, _<_}
@@ -14,7 +14,7 @@ use Rattle.laws.specs.Ceiling.{ceilDiv, ceil-below, below-ceil, ceil-le, ceil-m
 use Rattle.geometry.specs.Precinct.{across, cellFrom, cellTo}
 use Rattle.geometry.specs.Line.{Line, low, step, first, cellLow, hitAt, columnOf}
 use Rattle.geometry.specs.Fitted.{fitted, leastOf, fitted-small, fitted-least}
-use Rattle.geometry.specs.Hits.{cornerOf, bound-law, step-law, hit-corner}
+use Rattle.geometry.specs.Hits.{bound-law, step-law, hit-corner}
 
 module _ (r0 r1 pd : ℕ) where
   abbrev size : ℕ

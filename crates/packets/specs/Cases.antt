@@ -1,7 +1,7 @@
 -- 01's worked cases P-a to P-l ('Listing program and its sheets') and 02's P5 as rows of a single list, each checked by computing on the bytes of its sheet: what setup
 -- answers, the precincts, the packets in order, and what steps answer. P-j has 32,767 points to test, so positions are computed by the next hit in play
 -- (theorem 2, InPlay); what the listing program prints for sheet A is computed point by point. Assumes nothing.
-use Prim.Native.Nat.{ℕ, _+_, _-_}
+use Prim.Native.Nat.{ℕ, _+_, _-_, _*_}
 use mathlib.Core.Path.{_≡_, refl, subst, fun-ext}
 use mathlib.Core.Bool.{Bool, true, false, cond, _&&_}
 use mathlib.Core.List.{List, [], _∷_, _++_, map}
@@ -81,10 +81,10 @@ abbrev uneven : List (List ℕ)
 uneven =
     (1 ∷ 0 ∷ 0 ∷ 32 ∷ 16 ∷ 1 ∷ 2 ∷ 1 ∷ []) ∷ (2 ∷ 1 ∷ 1 ∷ 1 ∷ []) ∷ (3 ∷ 4 ∷ 4 ∷ []) ∷ (2 ∷ 1 ∷ 1 ∷ 2 ∷ []) ∷ (3 ∷ 3 ∷ 3 ∷ []) ∷ (3 ∷ 4 ∷ 4 ∷ []) ∷ (5 ∷ 2 ∷ []) ∷ []
 
--- P5's: luma of two resolutions beside an alpha plane of 33 with exponents 15, whose steps go up to 2^47
-abbrev alpha : List ℕ → List (List ℕ)
-alpha change =
-    (1 ∷ 0 ∷ 0 ∷ 8 ∷ 4 ∷ 1 ∷ 2 ∷ 1 ∷ []) ∷ (2 ∷ 1 ∷ 1 ∷ 2 ∷ []) ∷ (3 ∷ 1 ∷ 1 ∷ []) ∷ (3 ∷ 2 ∷ 2 ∷ []) ∷ (2 ∷ 1 ∷ 1 ∷ 33 ∷ []) ∷ (replicate 33 (3 ∷ 15 ∷ 15 ∷ []) ++ change ∷ [])
+-- P5's: luma of two resolutions beside an alpha plane of n with exponents 15, whose steps go up to 2^(n + 14)
+abbrev alpha : ℕ → List ℕ → List (List ℕ)
+alpha n change =
+    (1 ∷ 0 ∷ 0 ∷ 8 ∷ 4 ∷ 1 ∷ 2 ∷ 1 ∷ []) ∷ (2 ∷ 1 ∷ 1 ∷ 2 ∷ []) ∷ (3 ∷ 1 ∷ 1 ∷ []) ∷ (3 ∷ 2 ∷ 2 ∷ []) ∷ (2 ∷ 1 ∷ 1 ∷ n ∷ []) ∷ (replicate n (3 ∷ 15 ∷ 15 ∷ []) ++ change ∷ [])
 
 -- PACKETS: layer, resolution, component, precinct, and the point where it is met
 abbrev at : ℕ → ℕ → ℕ → ℕ → ℕ → ℕ → Position
@@ -120,9 +120,9 @@ accepts sheet marks sizes packets answers = record { sheet = sheet; number = pos
 abbrev refuses : List (List ℕ) → ℕ → Row
 refuses sheet n = record { sheet = sheet; number = refusal n; marks = 0; sizes = []; packets = []; answers = [] }
 
--- P5's with this progression: luma's counts are 2 by 1, the alpha plane's 1 by 1; a mark for 33 resolutions of two components with two precincts each
-abbrev withAlpha : List ℕ → List Position → List ℕ → Row
-withAlpha change packets answers = accepts (alpha change) 132 ((2 ∷ 1 ∷ 2 ∷ 1 ∷ []) ++ replicate 66 1) packets (answers ∷ [])
+-- P5's with this progression: luma's counts are 2 by 1, the alpha plane's 1 by 1; a mark for n resolutions of two components with two precincts each
+abbrev withAlpha : ℕ → List ℕ → List Position → List ℕ → Row
+withAlpha n change packets answers = accepts (alpha n change) (4 * n) ((2 ∷ 1 ∷ 2 ∷ 1 ∷ []) ++ replicate (2 * n) 1) packets (answers ∷ [])
 
 -- A with these progressions: counts 2 by 1 for both resolutions, 8 marks
 abbrev withA : List (List ℕ) → List Position → List (List ℕ) → Row
@@ -164,14 +164,14 @@ rows =
     -- 01, 'Easy slips': levels are the component's own; and a resolution is skipped for a component that hasn't got it
     ∷ accepts uneven 8 (2 ∷ 1 ∷ 2 ∷ 1 ∷ 2 ∷ 1 ∷ []) (at 0 0 0 0 0 0 ∷ at 0 0 1 0 0 0 ∷ at 0 0 0 1 16 0 ∷ at 0 0 1 1 16 0 ∷ at 0 1 1 0 0 0 ∷ at 0 1 1 1 16 0 ∷ []) []
     -- 02, P5: order 4 for luma alone never looks at the alpha plane
-    ∷ withAlpha (4 ∷ 4 ∷ 0 ∷ 0 ∷ 1 ∷ 33 ∷ 1 ∷ []) (at 0 0 0 0 0 0 ∷ at 0 1 0 0 0 0 ∷ at 0 0 0 1 4 0 ∷ at 0 1 0 1 4 0 ∷ []) (1 ∷ 1 ∷ 1 ∷ 1 ∷ 0 ∷ [])
-    -- with compno1 reaching it, with all components, and in order 2: -4
-    ∷ refuses (alpha (4 ∷ 4 ∷ 0 ∷ 0 ∷ 1 ∷ 33 ∷ 2 ∷ [])) 4
-    ∷ refuses (alpha (5 ∷ 4 ∷ [])) 4
-    ∷ refuses (alpha (4 ∷ 2 ∷ 0 ∷ 0 ∷ 1 ∷ 33 ∷ 1 ∷ [])) 4
+    ∷ withAlpha 33 (4 ∷ 4 ∷ 0 ∷ 0 ∷ 1 ∷ 33 ∷ 1 ∷ []) (at 0 0 0 0 0 0 ∷ at 0 1 0 0 0 0 ∷ at 0 0 0 1 4 0 ∷ at 0 1 0 1 4 0 ∷ []) (1 ∷ 1 ∷ 1 ∷ 1 ∷ 0 ∷ [])
+    -- with compno1 reaching it (18 resolutions are enough), with all components, and in order 2: -4
+    ∷ refuses (alpha 18 (4 ∷ 4 ∷ 0 ∷ 0 ∷ 1 ∷ 33 ∷ 2 ∷ [])) 4
+    ∷ refuses (alpha 18 (5 ∷ 4 ∷ [])) 4
+    ∷ refuses (alpha 18 (4 ∷ 2 ∷ 0 ∷ 0 ∷ 1 ∷ 33 ∷ 1 ∷ [])) 4
     -- compno1 above the components, or a range without components: no positions
-    ∷ withAlpha (4 ∷ 4 ∷ 0 ∷ 0 ∷ 1 ∷ 33 ∷ 3 ∷ []) [] (0 ∷ [])
-    ∷ withAlpha (4 ∷ 4 ∷ 0 ∷ 1 ∷ 1 ∷ 33 ∷ 1 ∷ []) [] (0 ∷ [])
+    ∷ withAlpha 18 (4 ∷ 4 ∷ 0 ∷ 0 ∷ 1 ∷ 33 ∷ 3 ∷ []) [] (0 ∷ [])
+    ∷ withAlpha 18 (4 ∷ 4 ∷ 0 ∷ 1 ∷ 1 ∷ 33 ∷ 1 ∷ []) [] (0 ∷ [])
     ∷ []
 
 -- THE TEST

@@ -1,6 +1,6 @@
 -- THE RECTANGLES of precincts (02, P2), as the call answers them for every sound state and table: those of a resolution are its area exactly, and the point at which
 -- a walk by points meets a precinct is where its rectangle starts. Assumes nothing.
-use mathlib.Core.Path.{_≡_, refl, sym, ap, _∙_, subst}
+use mathlib.Core.Path.{_≡_, sym, ap, subst}
 use mathlib.Core.Bool.{true, _&&_}
 use mathlib.Core.List.{List, List·Memᴰ as In}
 use mathlib.Core.Option.{some, none}

@@ -1,10 +1,9 @@
 -- Soundness (01, 'Sound means'), as a test that computes. `Meaning` says the same as a proposition.
-use Prim.Native.Nat.{ℕ, zero, suc, _+_, _-_}
+use Prim.Native.Nat.{ℕ, _+_, _-_}
 use mathlib.Core.Bool.{Bool, true, false, _&&_, _||_}
 use mathlib.Core.List.{List, [], _∷_}
 use lib.ListN.{length}
 use lib.Dec.{ltb, leb, eqb}
-use lib.IntN.{ℤ, pos, negsuc}
 use Rattle.laws.specs.Below.{allBelow}
 use Rattle.types.specs.Signed.{isZero}
 use Rattle.types.specs.Ranges.{tileRange, componentRange, exponentRange, progressionRange}

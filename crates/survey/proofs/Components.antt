@@ -1,16 +1,13 @@
 -- A resolution by what the axis answers, and what is held after r resolutions of a component, and its next turn: one resolution more, or nothing.
 -- Assumes nothing.
 use mathlib.Core.Path.{_≡_, refl, sym, ap, _∙_}
-use mathlib.Core.Bool.{Bool, true, false, cond, not}
+use mathlib.Core.Bool.{Bool, true, false}
 use mathlib.Core.List.{List}
-use mathlib.Core.Logic.{⊎-elim}
-use Prim.Native.Nat.{ℕ, _+_, _-_, _≤_, _<_, min}
+use Prim.Native.Nat.{ℕ, _+_, _-_, _≤_, _<_}
 use native.Mathlib.Nat.{mul-add, mul-one, mul-zero, mul-pos, mul-le-mul-left}
 use native.Mathlib.Omega.{arith}
-use lib.Dec.{leb, eqb}
 use lib.Pow.{pow-pos}
-use borrow.Author.Tests.{le-leb, lt-leb, ne-eqb}
-use Rattle.laws.specs.Cases.{le-or-lt, cond-told}
+use Rattle.laws.specs.Cases.{cond-told}
 use Rattle.laws.specs.Below.{allBelow, all-none, all-next, all-more, all-fails, max-none, max-more, min-none, min-more}
 use Rattle.words.specs.Words.{wordAt}
 use Rattle.geometry.specs.Axis.{resolutionOf, columnsOf}

@@ -1,5 +1,4 @@
 -- `area`: a resolution with a precinct has a column. Assumes nothing.
-use Prim.Native.Nat.{_*_, _<_}
 use Rattle.geometry.specs.Hits.{factors}
 use native.Mathlib.Omega.{arith}
 use borrow.Author.Needs.{needs}

@@ -1,5 +1,4 @@
 -- `precinct`: a precinct that is there is a cell before the end of the resolution, so that its number and its start fit; beyond the last nothing is left. Assumes nothing.
-use mathlib.Core.Path.{_≡_}
 use Prim.Native.Nat.{_<_}
 use Rattle.geometry.specs.Precinct.{across}
 use Rattle.geometry.specs.Axis.{columnsOf, cellOf}
