@@ -1,14 +1,15 @@
 -- Numbers that are 0 where they do not fit 32 bits: the multiples that such a step has among the points, and the smaller of such a number and another. Assumes nothing.
 use Prim.Native.Nat.{ℕ, zero, suc, _+_, _*_, _%_, _^_, _≤_, _<_, min}
-use mathlib.Core.Path.{_≡_}
+use mathlib.Core.Path.{_≡_, sym, ap, _∙_}
 use mathlib.Core.Bool.{true, false, cond, not}
 use mathlib.Core.Logic.{⊎-elim}
-use native.Mathlib.Nat.{mul-assoc, zero-mul, suc-mul, le-mul-of-pos-right, mod-zero, mod-eq-of-lt}
+use native.Mathlib.Nat.{zero-mul, suc-mul, mod-zero, mod-eq-of-lt}
 use native.Mathlib.Omega.{arith}
 use lib.Dec.{leb, eqb}
-use lib.Pow.{pow-pos, pow-add, pow-mono}
+use lib.Pow.{pow-mono}
 use borrow.Author.Tests.{le-leb, lt-leb, ne-eqb}
 use Rattle.laws.specs.Cases.{le-or-lt}
+use Rattle.geometry.specs.Math.{addSat}
 
 abbrev pub fitted : ℕ → ℕ
 fitted n = cond (leb n 4294967295) n 0
@@ -28,16 +29,13 @@ pub fitted-far : (a by : ℕ) → 32 ≤ by → fitted (a * 2 ^ by) ≡ 0
 fitted-far zero by h = rw (zero-mul (2 ^ by))
 fitted-far (suc a) by h = fitted-large (suc a * 2 ^ by) (omega (arith, pow-mono {i = 32} {j = by} h, suc-mul a (2 ^ by)))
 
--- by two powers one after the other
-pub fitted-twice : (d pd level : ℕ) → fitted (fitted (d * 2 ^ pd) * 2 ^ level) ≡ fitted (d * 2 ^ (pd + level))
-fitted-twice d pd level =
-    rw (pow-add 2 pd level, ← (mul-assoc d (2 ^ pd) (2 ^ level)))
-    (⊎-elim
-    (λ (h : d * 2 ^ pd ≤ 4294967295). rw (fitted-small (d * 2 ^ pd) h))
-    (λ (h : 4294967295 < d * 2 ^ pd).
-    let k : 4294967295 < d * 2 ^ pd * 2 ^ level = omega (arith, le-mul-of-pos-right (d * 2 ^ pd) (pow-pos level)) in
-    rw (fitted-large (d * 2 ^ pd) h, zero-mul (2 ^ level), fitted-large (d * 2 ^ pd * 2 ^ level) k))
-    (le-or-lt (d * 2 ^ pd) 4294967295))
+-- so a sum of exponents may stop at the largest number
+pub fitted-sum : (d pd level : ℕ) → fitted (d * 2 ^ addSat pd level) ≡ fitted (d * 2 ^ (pd + level))
+fitted-sum d pd level =
+    ⊎-elim
+    (λ (h : pd + level ≤ 4294967295). ap (λ (n : ℕ). fitted (d * 2 ^ n)) (omega arith))
+    (λ (h : 4294967295 < pd + level). fitted-far d (addSat pd level) (omega arith) ∙ sym (fitted-far d (pd + level) (omega arith)))
+    (le-or-lt (pd + level) 4294967295)
 
 -- a step that does not fit has the multiples among the points that 0 has
 pub fitted-multiple : (x n : ℕ) → x < 2 ^ 32 → x % fitted n ≡ x % n

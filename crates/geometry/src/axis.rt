@@ -94,7 +94,7 @@ impl Resolution {
 pub fn step(d: u32, level: u32, pd: u32) -> u32
     ensures { λ r. ⌜ r ≡ fitted (d * 2 ^ (pd + level)) ⌝ }
 {
-    power::raised(power::raised(d, pd), level)
+    power::raised(d, math::uint_adds(pd, level))
 }
 
 // Point x is a multiple of the step. One that does not fit has no multiple among the points but 0.
