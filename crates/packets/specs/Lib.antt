@@ -51,4 +51,3 @@ pub mod Recovered
 pub mod Origin
 pub mod Refusals
 pub mod Demands
-pub mod Cases

@@ -1,0 +1,2 @@
+-- 01's worked cases, by computing.
+pub mod Cases
