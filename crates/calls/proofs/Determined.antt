@@ -4,19 +4,13 @@ use borrow.Fn.Kinds.{Dens, resT, endedOf}
 use contract.Lifetimes.{Lfts}
 use denote.Ref.{now}
 use denote.Triple.Clauses.{AtExit}
-use Rattle.laws.specs.Determined.{determined, determined-by, OneAnswer}
+use Rattle.laws.specs.Determined.{determined-by, OneAnswer}
 use Rattle.types.specs.Answers.{ofOpened, ofLocated}
 use Rattle.packets.specs.Apart.{setup-apart, opened-apart, stepped-apart, located-apart}
 use Rattle.calls.proofs.setup.setup_for.Kinds as setup-for-kinds
 use Rattle.calls.proofs.setup.setup_for.Reads as setup-for
 use Rattle.calls.proofs.setup.setup.Kinds as setup-kinds
 use Rattle.calls.proofs.setup.setup.Reads as setup
-use Rattle.calls.proofs.soundness.sheet_sound.Kinds as sheet-sound-kinds
-use Rattle.calls.proofs.soundness.sheet_sound.Reads as sheet-sound
-use Rattle.calls.proofs.soundness.state_sound.Kinds as state-sound-kinds
-use Rattle.calls.proofs.soundness.state_sound.Reads as state-sound
-use Rattle.calls.proofs.soundness.sound.Kinds as sound-kinds
-use Rattle.calls.proofs.soundness.sound.Reads as sound
 use Rattle.calls.proofs.open.open.Kinds as opening-kinds
 use Rattle.calls.proofs.open.open.Reads as opening
 use Rattle.calls.proofs.step.step.Kinds as step-kinds
@@ -40,15 +34,6 @@ setup-for-determined κs a r s e f p q = setup-apart r s (p .0 ∙ sym (q .0))
 pub setup-for-leaves : (κs : Lfts 3) (a : Dens κs setup-for-kinds.ps) (r s : resT setup-for-kinds.r κs .Denot) (e f : AtExit (endedOf 3 setup-for-kinds.ps setup-for-kinds.r) κs)
     → setup-for.Post κs a r e → setup-for.Post κs a s f → (now (e .1 .0) ≡ now (f .1 .0)) × (now (e .1 .1 .0) ≡ now (f .1 .1 .0))
 setup-for-leaves κs a r s e f p q = (p .1 .0 ∙ sym (q .1 .0), p .1 .1 ∙ sym (q .1 .1))
-
-pub sheet-sound-determined : OneAnswer sheet-sound-kinds.ps sheet-sound-kinds.r sheet-sound.Post
-sheet-sound-determined κs a r s e f = determined _ r s
-
-pub state-sound-determined : OneAnswer state-sound-kinds.ps state-sound-kinds.r state-sound.Post
-state-sound-determined κs a r s e f = determined _ r s
-
-pub sound-determined : OneAnswer sound-kinds.ps sound-kinds.r sound.Post
-sound-determined κs a r s e f = determined _ r s
 
 pub open-determined : OneAnswer opening-kinds.ps opening-kinds.r opening.Post
 open-determined κs a r s e f = determined-by ofOpened opened-apart _ r s

@@ -9,7 +9,8 @@ use Rattle.packets.specs.Tile.{Sheet, lineX, lineY, width, precincts, rectangle
 use Rattle.packets.specs.Table.{sheetAt}
 use Rattle.packets.specs.Rectangles.{column-row}
 use Rattle.types.specs.declared.state.State.{State}
-use Rattle.calls.specs.Reached.{sidesOf, areaOf}
+use Rattle.soundness.specs.Reached.{sidesOf}
+use Rattle.calls.specs.Rectangle.{areaOf}
 
 pub area-is : (st : State) (table : List ℕ) (c r k : ℕ) → k < precincts (sheetAt st table) c r
     → areaOf (sidesOf (sheetAt st table) c r) k ≡ rectangle (sheetAt st table) c r k

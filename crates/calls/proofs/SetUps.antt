@@ -35,8 +35,8 @@ use Rattle.survey.specs.Sources.{records-survey, prec-exact}
 use Rattle.calls.specs.Reports.{withReports}
 use Rattle.calls.specs.Room.{roomFor, roomVerdict, setupIn}
 use Rattle.calls.specs.declared.output.Output.{Output}
-use Rattle.calls.proofs.InRange.{tile-some}
-use Rattle.calls.proofs.SoundBy.{fieldsTest, some-levels}
+use Rattle.soundness.proofs.InRange.{tile-some}
+use Rattle.soundness.proofs.SoundBy.{fieldsTest, some-levels}
 
 -- READING: its number is 0 just where the sheet has no refusal
 module _ (b : List ℕ) (r : SetUp) (said : ofSetUp r ≡ readOf b) (z : ℤ) (e : z ≡ ofSetUp r .number) where

@@ -1,6 +1,4 @@
 -- What a survey finds, as the reports of a state.
-use mathlib.Core.Bool.{Bool, _&&_}
-use lib.Dec.{eqb}
 use Rattle.types.specs.declared.state.State.{State}
 use Rattle.survey.specs.declared.Findings.{Findings}
 
@@ -20,7 +18,3 @@ withReports st f =
       changes = st .changes;
       reports = record { «max_prec» = f .«max_prec»; «max_res» = f .«max_res»; «dx_min» = f .«dx_min»; «dy_min» = f .«dy_min» };
     }
-
-abbrev pub sameReports : State → Findings → Bool
-sameReports st f =
-    eqb (st .reports .«max_prec») (f .«max_prec») && (eqb (st .reports .«max_res») (f .«max_res») && (eqb (st .reports .«dx_min») (f .«dx_min») && eqb (st .reports .«dy_min») (f .«dy_min»)))

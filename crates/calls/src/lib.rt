@@ -1,14 +1,10 @@
-// The public calls: setup, the test of soundness that comes before every other call, opening, step, the rectangle of a precinct and whole run.
-mod fields;
+// The public calls: setup, opening, step, the rectangle of a precinct and whole run. Soundness, the test before every call on a state, is a crate of its own.
 mod marks;
 pub mod open;
 pub mod output;
-mod place;
 pub mod rectangle;
 mod reports;
 pub mod setup;
-mod sides;
-pub mod soundness;
 pub mod step;
 mod table;
 pub mod whole;

@@ -1,5 +1,5 @@
 // Opening a progression (01, 'Numbers that come back').
-use crate::soundness::state_sound;
+use soundness::state_sound;
 use types::answer::Opened;
 use types::cursor::Cursor;
 use types::state::State;

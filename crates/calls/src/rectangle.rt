@@ -1,14 +1,14 @@
 // Where on the picture a precinct is (02, P2).
-use crate::sides::Sides;
-use crate::soundness::sheet_sound;
 use geometry::tile::Area;
+use soundness::sheet_sound;
+use soundness::sides::Sides;
 use types::answer::Located;
 use types::state::State;
 ghost use mathlib.Core.Path.{_≡_};
 ghost use Prim.Native.Nat.{_*_, _<_};
 ghost use Rattle.types.specs.Answers.{ofLocated};
 ghost use Rattle.packets.specs.Calls.{rectangleOf};
-ghost use Rattle.calls.specs.Reached.{areaOf};
+ghost use Rattle.calls.specs.Rectangle.{areaOf};
 
 // The rectangle of one of the precincts of a resolution: across by its column, down by its row.
 fn area(sides: Sides, precno: u32) -> Area

@@ -1,5 +1,5 @@
 // One step of a progression (01, 'Ranges and orders': "A step searches after it, in order"; opj_pi_next).
-use crate::soundness::sound;
+use soundness::sound;
 use types::answer::Stepped;
 use types::cursor::Cursor;
 use types::cursor::Place;

@@ -11,8 +11,8 @@ use Rattle.packets.specs.Table.{sheetAt}
 use Rattle.packets.specs.Sound.{sheetSound}
 use Rattle.packets.specs.Meaning.{sheet-means}
 use Rattle.packets.specs.Calls.{rectangleOf}
-use Rattle.calls.specs.Reached.{Reached}
-use Rattle.calls.proofs.Resolution.{counts, count-is}
+use Rattle.soundness.specs.Reached.{Reached}
+use Rattle.soundness.proofs.Resolution.{counts, count-is}
 use Rattle.calls.proofs.Located.{area-is}
 use borrow.Author.Needs.{needs}
 use Rattle.calls.proofs.rectangle.rectangle.Statement.{statement}

@@ -1,6 +1,6 @@
 -- `setup`: the refusals in their order, each with everything as it was; and else the table written and the marks cleared. Assumes nothing.
 use Rattle.calls.proofs.SetUps.{Seen, read-fine, read-bad, read-fields, refused-reading, fields-good, refused-grid, refused-many, refused-marks, refused-table, refused-room, accepted-left}
-use Rattle.calls.proofs.SoundBy.{entries-are}
+use Rattle.soundness.proofs.SoundBy.{entries-are}
 use Rattle.calls.proofs.Kept.{kept-length, kept-table}
 use lib.ListN.{length}
 use Rattle.laws.specs.Cases.{not-true, not-false}

@@ -1,0 +1,17 @@
+-- Each public contract of this crate allows one answer. Assumes nothing.
+use Rattle.laws.specs.Determined.{determined, OneAnswer}
+use Rattle.soundness.proofs.sheet_sound.Kinds as sheet-sound-kinds
+use Rattle.soundness.proofs.sheet_sound.Reads as sheet-sound
+use Rattle.soundness.proofs.state_sound.Kinds as state-sound-kinds
+use Rattle.soundness.proofs.state_sound.Reads as state-sound
+use Rattle.soundness.proofs.sound.Kinds as sound-kinds
+use Rattle.soundness.proofs.sound.Reads as sound
+
+pub sheet-sound-determined : OneAnswer sheet-sound-kinds.ps sheet-sound-kinds.r sheet-sound.Post
+sheet-sound-determined κs a r s e f = determined _ r s
+
+pub state-sound-determined : OneAnswer state-sound-kinds.ps state-sound-kinds.r state-sound.Post
+state-sound-determined κs a r s e f = determined _ r s
+
+pub sound-determined : OneAnswer sound-kinds.ps sound-kinds.r sound.Post
+sound-determined κs a r s e f = determined _ r s

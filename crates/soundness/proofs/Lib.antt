@@ -1,0 +1,5 @@
+pub mod InRange
+pub mod Resolution
+pub mod Listed
+pub mod SoundBy
+pub mod Determined

@@ -1,0 +1,75 @@
+// Soundness (01, 'Sound means'): the test before every call on a state.
+mod fields;
+mod place;
+mod reports;
+pub mod sides;
+
+use survey::Source;
+use types::cursor::Cursor;
+use types::state::State;
+use types::table::Entry;
+use types::table::entries;
+ghost use mathlib.Core.Path.{_≡_};
+ghost use Rattle.packets.specs.Sound as spec;
+ghost use mathlib.Core.Bool.{true};
+ghost use Rattle.packets.specs.Sound.{sheetSound, stateSound};
+ghost use Rattle.packets.specs.Tile.{needed};
+
+// What is known of a state and its table.
+struct Known {
+    sound: bool,
+    // the marks needed, of what is sound
+    needed: u32,
+}
+
+// Every rule that setup establishes holds of a state with its table.
+fn judged(st: State, table: &[u8]) -> Known
+    ensures sound { λ r. ⌜ r .sound ≡ sheetSound st (now (table .entry)) ⌝ }
+    ensures needed { λ r. ⌜ (sheetSound st (now (table .entry)) ≡ true → r .needed ≡ needed st) ⌝ }
+{
+    if fields::fields_sound(st) {
+        let resolutions = st.resolutions;
+        if Entry::BYTES * entries(&resolutions, st.components as usize) <= table.len() {
+            // no words are wanted
+            let mut none = [0u32; 0];
+            let found = survey::survey(table, Source::Entries, true, st, &mut none);
+            let sound = found.good & (reports::agree(st, found) & (found.grid & found.few));
+            return Known {
+                sound,
+                needed: found.needed,
+            };
+        }
+    }
+    Known {
+        sound: false,
+        needed: 0,
+    }
+}
+
+// A state and a table, whatever marks and cursor there are.
+pub fn sheet_sound(st: State, table: &[u8]) -> bool
+    ensures { λ r. ⌜ r ≡ sheetSound st (now (table .entry)) ⌝ }
+{
+    judged(st, table).sound
+}
+
+// And the marks suffice.
+pub fn state_sound(st: State, table: &[u8], marks: &[u8]) -> bool
+    ensures { λ r. ⌜ r ≡ stateSound st (now (table .entry)) (now (marks .entry)) ⌝ }
+{
+    let known = judged(st, table);
+    known.sound & ((known.needed as usize) <= marks.len())
+}
+
+// A sound state, and a cursor of one of its progressions at a place which that admits.
+pub fn sound(st: State, table: &[u8], marks: &[u8], cursor: Cursor) -> bool
+    ensures { λ r. ⌜ r ≡ spec.sound st (now (table .entry)) (now (marks .entry)) cursor ⌝ }
+{
+    if state_sound(st, table, marks) {
+        if cursor.progression < st.progressions {
+            let place = cursor.place;
+            return place::admitted(st, table, cursor.progression, place);
+        }
+    }
+    false
+}
