@@ -13,13 +13,14 @@ pub(crate) fn floored(a: u32, by: u32) -> u32
     if by < 32 { a >> by } else { 0 }
 }
 
-// a · 2^by; 0 where that does not fit 32 bits.
+// a · 2^by; 0 where that does not fit 32 bits: then the shift back does not give a.
 pub(crate) fn raised(a: u32, by: u32) -> u32
     ensures { λ r. ⌜ r ≡ fitted (a * 2 ^ by) ⌝ }
 {
     if by < 32 {
-        if a <= 0xffff_ffff >> by {
-            return a << by;
+        let high = a << by;
+        if high >> by == a {
+            return high;
         }
     }
     0
