@@ -29,12 +29,12 @@ impl Entry {
                 height: 0,
             };
         }
-        let from = Entry::BYTES * i;
+        let w = words::four_at(table, Entry::BYTES * i);
         Entry {
-            pdx: words::word_at(table, from),
-            pdy: words::word_at(table, from + 4),
-            width: words::word_at(table, from + 8),
-            height: words::word_at(table, from + 12),
+            pdx: w.a,
+            pdy: w.b,
+            width: w.c,
+            height: w.d,
         }
     }
 }

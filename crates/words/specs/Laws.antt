@@ -6,13 +6,13 @@ use Prim.Native.Nat.{ℕ, zero, suc, _+_, _*_, _/_, _%_, _^_, _≤_, _<_}
 use native.Mathlib.Nat.{suc-add, add-assoc}
 use native.Mathlib.Numerals.{add-one}
 use native.Mathlib.Omega.{arith}
-use lib.ListN.{length, getD, set, drop, length-append, length-drop}
-use lib.Seq.{getD-append-add, drop-cons}
+use lib.ListN.{length, getD, set, take, drop, length-append, length-take, length-drop}
+use lib.Seq.{getD-append-add, getD-take, getD-drop, drop-cons}
 use lib.Dec.{leb}
 use borrow.Author.Tests.{le-leb, lt-leb}
 use Rattle.laws.specs.Cases.{le-or-lt, split}
 use Rattle.laws.specs.Gather.{gather, gather-append}
-use Rattle.words.specs.Words.{wordAt, putWord, putFour, bytesOf, wordsBytes, over}
+use Rattle.words.specs.Words.{wordAt, fourAt, putWord, putFour, bytesOf, wordsBytes, over}
 
 -- with room, and without
 module _ (s : List ℕ) (at : ℕ) where
@@ -34,6 +34,27 @@ module _ (s : List ℕ) (at : ℕ) where
     pub put-none : length s < at + 4 → putWord s at w ≡ s
     unfolding putWord
     put-none h = rw (lt-leb _ _ h)
+
+-- a word of a part of some bytes, m of them from place at on: one of those that are all there, or any where the part goes to the end
+pub word-part : (s : List ℕ) (at m k : ℕ) → at + m ≤ length s → (m < k + 4 → at + m ≡ length s) → wordAt (take m (drop at s)) k ≡ wordAt s (at + k)
+word-part s at m k h end =
+    let long : length (take m (drop at s)) ≡ m = simp (length-take, length-drop) (omega arith) in
+    let there : (i : ℕ) → i < m → getD (take m (drop at s)) i 0 ≡ getD s (at + i) 0 = λ i l. rw (getD-take, getD-drop) in
+    ⊎-elim
+    (λ (l : k + 4 ≤ m).
+    rw (word-room (take m (drop at s)) k (omega arith), word-room s (at + k) (omega arith), there k (omega arith), there (k + 1) (omega arith), there (k + 2) (omega arith), there (k + 3) (omega arith), add-assoc at k 1, add-assoc at k 2, add-assoc at k 3))
+    (λ (l : m < k + 4). rw (word-none (take m (drop at s)) k (omega arith), word-none s (at + k) (omega (arith, end l))))
+    (le-or-lt (k + 4) m)
+
+-- four words of a part with 16 bytes, or to the end; and four beyond the end
+pub four-part : (s : List ℕ) (at m : ℕ) → at + m ≤ length s → (m < 16 → at + m ≡ length s) → fourAt (take m (drop at s)) 0 ≡ fourAt s at
+four-part s at m h end =
+    let word : (k : ℕ) → k ≤ 12 → wordAt (take m (drop at s)) k ≡ wordAt s (at + k) = λ k l. word-part s at m k h (λ j. end (omega arith)) in
+    let first : at + 0 ≡ at = omega arith in
+    rw (word 0 (omega arith), word 4 (omega arith), word 8 (omega arith), word 12 (omega arith), first)
+
+pub four-beyond : (s : List ℕ) (at : ℕ) → length s < at → fourAt s at ≡ record { a = 0; b = 0; c = 0; d = 0 }
+four-beyond s at h = rw (word-none s at (omega arith), word-none s (at + 4) (omega arith), word-none s (at + 8) (omega arith), word-none s (at + 12) (omega arith))
 
 -- the bytes of a word make it again
 pub bytes-word : (w : ℕ) (rest : List ℕ) → w < 2 ^ 32 → wordAt (bytesOf w ++ rest) 0 ≡ w

@@ -5,6 +5,7 @@ use mathlib.Core.List.{List, [], _∷_, _++_}
 use lib.ListN.{length, getD, set, drop}
 use lib.Dec.{leb}
 use Rattle.laws.specs.Gather.{gather}
+use Rattle.words.specs.declared.Four.{Four}
 
 -- the word whose first byte stands at place at; 0 where the four bytes are not all there
 unfoldable pub wordAt : List ℕ → ℕ → ℕ
@@ -12,6 +13,10 @@ wordAt s at =
     cond (leb (at + 4) (length s))
     (getD s at 0 * 2 ^ 24 + getD s (at + 1) 0 * 2 ^ 16 + getD s (at + 2) 0 * 2 ^ 8 + getD s (at + 3) 0)
     0
+
+-- the four words from place at on
+abbrev pub fourAt : List ℕ → ℕ → Four
+fourAt s at = record { a = wordAt s at; b = wordAt s (at + 4); c = wordAt s (at + 8); d = wordAt s (at + 12) }
 
 -- s with w's four bytes from place at on; s itself where there is no room for them
 unfoldable pub putWord : List ℕ → ℕ → ℕ → List ℕ

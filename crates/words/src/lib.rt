@@ -2,7 +2,7 @@
 ghost use mathlib.Core.Path.{_≡_};
 ghost use Prim.Native.Nat.{_+_, _/_, _%_, _^_, _≤_, _<_};
 ghost use lib.ListN.{length};
-ghost use Rattle.words.specs.Words.{wordAt, putWord, putFour};
+ghost use Rattle.words.specs.Words.{wordAt, fourAt, putWord, putFour};
 
 fn wide(b: u8) -> u32
     ensures { λ r. ⌜ (r ≡ b) × (r < 256) ⌝ }
@@ -24,6 +24,44 @@ pub fn word_at(s: &[u8], at: usize) -> u32
         + wide(s[at + 1]) * 0x1_0000
         + wide(s[at + 2]) * 0x100
         + wide(s[at + 3])
+}
+
+// Four words, one after the other.
+pub struct Four {
+    pub a: u32,
+    pub b: u32,
+    pub c: u32,
+    pub d: u32,
+}
+
+// The first four of s.
+fn first_four(s: &[u8]) -> Four
+    ensures { λ r. ⌜ r ≡ fourAt (now (s .entry)) 0 ⌝ }
+{
+    Four {
+        a: word_at(s, 0),
+        b: word_at(s, 4),
+        c: word_at(s, 8),
+        d: word_at(s, 12),
+    }
+}
+
+// The four from place at on. Where they are all there just their 16 bytes are lent to the four reads, and the compiler drops the test of each.
+pub fn four_at(s: &[u8], at: usize) -> Four
+    ensures { λ r. ⌜ r ≡ fourAt (now (s .entry)) at ⌝ }
+{
+    if s.len() < at {
+        return Four {
+            a: 0,
+            b: 0,
+            c: 0,
+            d: 0,
+        };
+    }
+    if s.len() - at < 16 {
+        return first_four(&s[at..]);
+    }
+    first_four(&s[at..at + 16])
 }
 
 // The bytes of a word in the other order. The compiler knows it as one instruction, and the four writes below as one.
