@@ -1,13 +1,15 @@
--- Tests that are one; smallest numbers from other starts, and among the multiples by powers of two. Assumes nothing.
+-- Tests that are one; smallest numbers from other starts; the smallest and the largest by what they grow with; multiples by powers of two. Assumes nothing.
 use mathlib.Core.Path.{_≡_, refl, sym, ap, _∙_}
 use mathlib.Core.Bool.{Bool, true, false, _&&_, false≢true}
 use mathlib.Core.Logic.{⊎-elim}
-use Prim.Native.Nat.{ℕ, zero, suc, _+_, _-_, _*_, _%_, _^_, _≤_, _<_, min}
-use native.Mathlib.Nat.{mul-assoc, mul-comm, mul-mod-left, mul-lt-mul-of-pos-left}
+use Prim.Native.Nat.{ℕ, zero, suc, _+_, _-_, _*_, _%_, _^_, _≤_, _<_, min, max}
+use native.Mathlib.Nat.{mul-assoc, mul-comm, mul-mod-left, mul-le-mul-left, mul-lt-mul-of-pos-left}
 use native.Mathlib.Omega.{arith}
-use lib.Pow.{pow-lt, pow-add}
+use lib.Dec.{leb}
+use lib.Pow.{pow-mono, pow-lt, pow-add}
+use borrow.Author.Tests.{le-leb, leb-true}
 use Rattle.laws.specs.Cases.{le-or-lt, and-false}
-use Rattle.laws.specs.Below.{allBelow, all-at, minBelow, min-at}
+use Rattle.laws.specs.Below.{allBelow, all-at, maxBelow, max-at, minBelow, min-at}
 use Rattle.laws.specs.Pointwise.{all-true}
 use Rattle.laws.specs.Least.{min-from}
 
@@ -42,7 +44,39 @@ min-restart a b f n some h k =
     let low : minBelow b f n ≤ a = omega (arith, min-at b f n 0 some) in
     rw (← both) (min-from a b f n ∙ (let e : min a (minBelow b f n) ≡ minBelow b f n = omega arith in e))
 
--- of two multiples of d by powers of two, the smaller divides the larger
+-- of numbers f (e i), where f grows, the smallest is that of the smallest e i, and all are at most m if that of the largest e i is
+module _ (f : ℕ → ℕ) (grows : (x y : ℕ) → x ≤ y → f x ≤ f y) (e : ℕ → ℕ) where
+  pub min-grown : (a k : ℕ) → a ≤ f k → (n : ℕ) → minBelow a (λ i. f (e i)) n ≡ min a (f (minBelow k e n))
+  unfolding minBelow
+  min-grown a k h zero = omega arith
+  min-grown a k h (suc n) =
+      let x : ℕ = minBelow k e n in
+      rw (min-grown a k h n)
+      (⊎-elim
+      (λ (l : x ≤ e n). let s : min x (e n) ≡ x = omega arith in rw s (omega (arith, grows x (e n) l)))
+      (λ (l : e n < x). let s : min x (e n) ≡ e n = omega arith in rw s (omega (arith, grows (e n) x (omega arith))))
+      (le-or-lt x (e n)))
+
+  most-grown : (m : ℕ) → f 0 ≤ m → (n : ℕ) → ((i : ℕ) → i < n → f (e i) ≤ m) → f (maxBelow e n) ≤ m
+  unfolding maxBelow
+  most-grown m h zero k = h
+  most-grown m h (suc n) k =
+      let x : ℕ = maxBelow e n in
+      ⊎-elim
+      (λ l. let s : max x (e n) ≡ e n = omega arith in rw s (k n (omega arith)))
+      (λ l. let s : max x (e n) ≡ x = omega arith in rw s (most-grown m h n (λ i j. k i (omega arith))))
+      (le-or-lt x (e n))
+
+  pub all-grown : (m : ℕ) → f 0 ≤ m → (n : ℕ) → allBelow (λ i. leb (f (e i)) m) n ≡ leb (f (maxBelow e n)) m
+  all-grown m h n =
+      same-tests _ _
+      (λ t. le-leb _ _ (most-grown m h n (λ i l. leb-true _ _ (all-at (λ i. leb (f (e i)) m) n t i l))))
+      (λ t. all-true (λ i. leb (f (e i)) m) n (λ i l. le-leb (f (e i)) m (omega (arith, grows (e i) (maxBelow e n) (max-at e n i l), leb-true (f (maxBelow e n)) m t))))
+
+-- multiples of d by powers of two grow with the exponent, and of two the smaller divides the larger
+pub shifted-grows : (d j k : ℕ) → j ≤ k → d * 2 ^ j ≤ d * 2 ^ k
+shifted-grows d j k h = mul-le-mul-left d (pow-mono h)
+
 pub shifted-multiple : (d j k : ℕ) → 1 ≤ d → d * 2 ^ j ≤ d * 2 ^ k → d * 2 ^ k % (d * 2 ^ j) ≡ 0
 shifted-multiple d j k pos h =
     ⊎-elim

@@ -24,6 +24,7 @@ use Rattle.survey.specs.declared.Source.{Source}
 use Rattle.survey.specs.declared.Source.the-variants.{Records, Entries}
 use Rattle.survey.specs.declared.Findings.{Findings}
 use Rattle.survey.specs.declared.axes.Axes.{Axes}
+use Rattle.survey.specs.declared.gathered.Gathered.{Gathered}
 use Rattle.survey.specs.declared.sums.Sums.{Sums}
 use Rattle.survey.specs.declared.marks.Marks.{Marks}
 use Rattle.survey.specs.declared.places.Places.{Places}
@@ -41,21 +42,39 @@ strideOf a level pd = a .d * 2 ^ (pd + level)
 abbrev pub entryOf : Axes → ℕ → ℕ → ℕ → Entry
 entryOf a level pdx pdy = record { pdx = pdx; pdy = pdy; width = countOf (a .x) level pdx; height = countOf (a .y) level pdy }
 
--- SUMS: of nothing yet, of something out of range, with a resolution, and of two groups
+-- GATHERED over resolutions: of none yet, of something out of range, and with one more
+abbrev pub startGathered : Gathered
+startGathered = record { good = true; most = 0; «x_low» = 32; «x_high» = 0; «y_low» = 32; «y_high» = 0 }
+
+abbrev pub noGathered : Gathered
+noGathered = record { good = false; most = 0; «x_low» = 0; «x_high» = 0; «y_low» = 0; «y_high» = 0 }
+
+abbrev pub withEntry : Gathered → ℕ → Entry → Gathered
+withEntry g level entry =
+    record {
+      good = true;
+      most = max (g .most) (capped (entry .width * entry .height));
+      «x_low» = min (g .«x_low») (entry .pdx + level);
+      «x_high» = max (g .«x_high») (entry .pdx + level);
+      «y_low» = min (g .«y_low») (entry .pdy + level);
+      «y_high» = max (g .«y_high») (entry .pdy + level);
+    }
+
+-- SUMS: of nothing yet, of something out of range, of what was gathered on a component's axes, and of two groups
 abbrev pub startSums : Sums
 startSums = record { good = true; most = 0; fit = true; «x_least» = 4294967295; «y_least» = 4294967295 }
 
 abbrev pub noSums : Sums
 noSums = record { good = false; most = 0; fit = false; «x_least» = 0; «y_least» = 0 }
 
-abbrev pub withEntry : Sums → Axes → ℕ → Entry → Sums
-withEntry s a level entry =
+abbrev pub sumsOf : Axes → Gathered → Sums
+sumsOf a g =
     record {
       good = true;
-      most = max (s .most) (capped (entry .width * entry .height));
-      fit = s .fit && (leb (strideOf (a .x) level (entry .pdx)) 4294967295 && leb (strideOf (a .y) level (entry .pdy)) 4294967295);
-      «x_least» = min (s .«x_least») (strideOf (a .x) level (entry .pdx));
-      «y_least» = min (s .«y_least») (strideOf (a .y) level (entry .pdy));
+      most = g .most;
+      fit = leb (a .x .d * 2 ^ g .«x_high») 4294967295 && leb (a .y .d * 2 ^ g .«y_high») 4294967295;
+      «x_least» = min 4294967295 (a .x .d * 2 ^ g .«x_low»);
+      «y_least» = min 4294967295 (a .y .d * 2 ^ g .«y_low»);
     }
 
 abbrev pub joinedSums : Sums → Sums → Sums
@@ -68,7 +87,7 @@ joinedSums a b =
       «y_least» = min (a .«y_least») (b .«y_least»);
     }
 
--- A RESOLUTION whose exponents stand at place p: its entry, whether its sizes and its exponents are good, and the sums with it
+-- A RESOLUTION whose exponents stand at place p: its entry, whether its sizes and its exponents are good, and what is gathered with it
 abbrev pub entryFrom : List ℕ → ℕ → Axes → ℕ → Entry
 entryFrom e p a level = entryOf a level (wordAt e p) (wordAt e (p + 4))
 
@@ -79,8 +98,8 @@ unfoldable pub entryFine : List ℕ → ℕ → Bool → Axes → ℕ → Bool
 entryFine e p check a level =
     exponentRange (wordAt e p) (wordAt e (p + 4)) && sizesAt e p check (entryFrom e p a level .width) (entryFrom e p a level .height)
 
-unfoldable pub entrySums : List ℕ → ℕ → Bool → Axes → ℕ → Sums → Sums
-entrySums e p check a level s = cond (entryFine e p check a level) (withEntry s a level (entryFrom e p a level)) noSums
+unfoldable pub entryGathered : List ℕ → ℕ → Bool → Axes → ℕ → Gathered → Gathered
+entryGathered e p check a level g = cond (entryFine e p check a level) (withEntry g level (entryFrom e p a level)) noGathered
 
 -- its precincts and steps
 abbrev pub precinctsAt : List ℕ → ℕ → Axes → ℕ → ℕ
@@ -92,19 +111,30 @@ strideX e p a level = strideOf (a .x) level (wordAt e p)
 abbrev pub strideY : List ℕ → ℕ → Axes → ℕ → ℕ
 strideY e p a level = strideOf (a .y) level (wordAt e (p + 4))
 
--- A COMPONENT with n resolutions, whose exponents stand at q 0, q 1, ..: the sums of the first k, of all, and with the ranges of its own fields
-unfoldable pub passed : List ℕ → (ℕ → ℕ) → Axes → ℕ → ℕ → Sums
-passed e q a n k =
+-- A COMPONENT with n resolutions, whose exponents stand at q 0, q 1, ..: what is gathered over the first k, the sums of all, and with the ranges of its own fields
+unfoldable pub gatheredTo : List ℕ → (ℕ → ℕ) → Axes → ℕ → ℕ → Gathered
+gatheredTo e q a n k =
     record {
       good = true;
       most = capped (maxBelow (λ r. precinctsAt e (q r) a (n - 1 - r)) k);
-      fit = allBelow (λ r. leb (strideX e (q r) a (n - 1 - r)) 4294967295 && leb (strideY e (q r) a (n - 1 - r)) 4294967295) k;
-      «x_least» = minBelow 4294967295 (λ r. strideX e (q r) a (n - 1 - r)) k;
-      «y_least» = minBelow 4294967295 (λ r. strideY e (q r) a (n - 1 - r)) k;
+      «x_low» = minBelow 32 (λ r. wordAt e (q r) + (n - 1 - r)) k;
+      «x_high» = maxBelow (λ r. wordAt e (q r) + (n - 1 - r)) k;
+      «y_low» = minBelow 32 (λ r. wordAt e (q r + 4) + (n - 1 - r)) k;
+      «y_high» = maxBelow (λ r. wordAt e (q r + 4) + (n - 1 - r)) k;
+    }
+
+unfoldable pub passed : List ℕ → (ℕ → ℕ) → Axes → ℕ → Sums
+passed e q a n =
+    record {
+      good = true;
+      most = capped (maxBelow (λ r. precinctsAt e (q r) a (n - 1 - r)) n);
+      fit = allBelow (λ r. leb (strideX e (q r) a (n - 1 - r)) 4294967295 && leb (strideY e (q r) a (n - 1 - r)) 4294967295) n;
+      «x_least» = minBelow 4294967295 (λ r. strideX e (q r) a (n - 1 - r)) n;
+      «y_least» = minBelow 4294967295 (λ r. strideY e (q r) a (n - 1 - r)) n;
     }
 
 unfoldable pub resolutionSums : List ℕ → (ℕ → ℕ) → Bool → Axes → ℕ → Sums
-resolutionSums e q check a n = cond (allBelow (λ r. entryFine e (q r) check a (n - 1 - r)) n) (passed e q a n n) noSums
+resolutionSums e q check a n = cond (allBelow (λ r. entryFine e (q r) check a (n - 1 - r)) n) (passed e q a n) noSums
 
 unfoldable pub componentSums : List ℕ → (ℕ → ℕ) → Bool → Area → ℕ → ℕ → ℕ → Sums
 componentSums e q check tile dx dy n = cond (componentRange dx dy n) (resolutionSums e q check (axesOf tile dx dy) n) noSums

@@ -1,5 +1,6 @@
 // The resolutions of one component: their ranges, and what is gathered over them.
 use crate::axes::Axes;
+use crate::gathered::Gathered;
 use crate::kept;
 use crate::places::Places;
 use crate::sums::Sums;
@@ -7,7 +8,7 @@ use geometry::tile::Area;
 use types::state::State;
 ghost use mathlib.Core.Path.{_≡_};
 ghost use Prim.Native.Nat.{_+_, _*_, _≤_, _<_};
-ghost use Rattle.survey.specs.Passing.{exponentsAt, sizesAt, entrySums, resolutionSums, componentSums};
+ghost use Rattle.survey.specs.Passing.{exponentsAt, sizesAt, entryGathered, resolutionSums, componentSums};
 ghost use Rattle.survey.specs.Kept.{Keeps, entryWords, resolutionWords, componentWords};
 
 // The fields of a component's record.
@@ -31,33 +32,33 @@ fn sizes_right(e: &[u8], at: usize, check: bool, width: u32, height: u32) -> boo
     }
 }
 
-// Sums with the resolution of this level whose exponents stand at place at; the words of its entry are kept from place to on.
+// What is held, with the resolution of this level whose exponents stand at place at; the words of its entry are kept from place to on.
 fn resolution(
     e: &[u8],
     at: usize,
     check: bool,
     axes: Axes,
     level: u32,
-    held: Sums,
+    held: Gathered,
     kept: &mut [u32],
     to: usize,
-) -> Sums
-    requires { ⌜ (at < 65536) × (1 ≤ axes .x .d) × (1 ≤ axes .y .d) × (to < 65536) ⌝ }
-    ensures sums { λ r. ⌜ r ≡ entrySums (now (e .entry)) at check axes level held ⌝ }
+) -> Gathered
+    requires { ⌜ (at < 65536) × (level < 33) × (to < 65536) ⌝ }
+    ensures gathered { λ r. ⌜ r ≡ entryGathered (now (e .entry)) at check axes level held ⌝ }
     ensures keeps { λ r. ⌜ Keeps (now (kept .entry)) (now (kept .exit)) to (r .good) (entryWords (now (e .entry)) at axes level) ⌝ }
 {
     let pdx = words::word_at(e, at);
     let pdy = words::word_at(e, at + 4);
     if !State::exponents_in_range(pdx, pdy) {
-        return Sums::none();
+        return Gathered::none();
     }
     let entry = axes.entry(level, pdx, pdy);
     let right = sizes_right(e, at, check, entry.width, entry.height);
     if right {
         kept::keep(kept, to, entry);
-        held.with(axes, level, entry)
+        held.with(level, entry)
     } else {
-        Sums::none()
+        Gathered::none()
     }
 }
 
@@ -75,7 +76,7 @@ fn resolutions(
     ensures sums { λ r. ⌜ r ≡ resolutionSums (now (e .entry)) (exponentsAt places) check axes n ⌝ }
     ensures keeps { λ r. ⌜ Keeps (now (kept .entry)) (now (kept .exit)) to (r .good) (resolutionWords (now (e .entry)) (exponentsAt places) axes n n) ⌝ }
 {
-    let mut all = Sums::start();
+    let mut all = Gathered::start();
     let mut at = places.first;
     let mut r: u32 = 0;
     while r < n {
@@ -88,7 +89,7 @@ fn resolutions(
             return Sums::none();
         }
     }
-    all
+    all.sums(axes)
 }
 
 // The sums of a component, if its fields are in range; its entries are kept from place to on.

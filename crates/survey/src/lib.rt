@@ -3,6 +3,7 @@
 mod axes;
 mod capped;
 mod component;
+mod gathered;
 mod grid;
 mod kept;
 mod marks;

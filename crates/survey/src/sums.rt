@@ -1,13 +1,7 @@
-// What is gathered over resolutions: the largest precinct count, whether every step fits 32 bits, and the smallest step on each axis.
-use crate::axes::Axes;
-use crate::capped;
-use geometry::axis;
+// What is known of one component or of several: the largest precinct count, whether every step fits 32 bits, and the smallest step on each axis.
 use geometry::math;
-use geometry::power;
-use types::table::Entry;
 ghost use mathlib.Core.Path.{_≡_};
-ghost use Prim.Native.Nat.{_≤_};
-ghost use Rattle.survey.specs.Passing.{noSums, startSums, withEntry, joinedSums};
+ghost use Rattle.survey.specs.Passing.{noSums, startSums, joinedSums};
 
 pub(crate) struct Sums {
     // everything passed was good; else no step fits, and all numbers are 0
@@ -22,7 +16,7 @@ pub(crate) struct Sums {
 }
 
 impl Sums {
-    // Before the first resolution.
+    // Before the first component.
     pub(crate) fn start() -> Self
         ensures { λ r. ⌜ r ≡ startSums ⌝ }
     {
@@ -48,23 +42,7 @@ impl Sums {
         }
     }
 
-    // With a resolution of this level.
-    pub(crate) fn with(self, axes: Axes, level: u32, entry: Entry) -> Self
-        requires { ⌜ (1 ≤ axes .x .d) × (1 ≤ axes .y .d) ⌝ }
-        ensures { λ r. ⌜ r ≡ withEntry self axes level entry ⌝ }
-    {
-        let step_x = axis::step(axes.x.d, level, entry.pdx);
-        let step_y = axis::step(axes.y.d, level, entry.pdy);
-        Sums {
-            good: true,
-            most: math::uint_max(self.most, capped::times(entry.width, entry.height)),
-            fit: self.fit & ((step_x != 0) & (step_y != 0)),
-            x_least: power::least(self.x_least, step_x),
-            y_least: power::least(self.y_least, step_y),
-        }
-    }
-
-    // Of two groups of good resolutions together.
+    // Of two groups of good components together.
     pub(crate) fn joined(self, b: Sums) -> Self
         ensures { λ r. ⌜ r ≡ joinedSums self b ⌝ }
     {

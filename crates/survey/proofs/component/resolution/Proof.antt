@@ -2,16 +2,19 @@
 use borrow.Author.Needs.{needs}
 use mathlib.Core.Path.{_≡_, sym, ap, _∙_}
 use mathlib.Core.Bool.{true}
-use Prim.Native.Nat.{_+_}
+use Prim.Native.Nat.{_+_, _<_}
+use native.Mathlib.Omega.{arith}
+use lib.Dec.{leb}
+use borrow.Author.Tests.{leb-true}
 use denote.Ref.{now}
-use Rattle.laws.specs.Cases.{not-true, not-false}
+use Rattle.laws.specs.Cases.{and-true, not-true, not-false}
 use Rattle.words.specs.Words.{wordAt}
 use Rattle.types.specs.Ranges.{exponentRange}
 use Rattle.types.specs.declared.table.Entry.{Entry}
 use Rattle.survey.specs.Passing.{entryOf, entryFrom, sizesAt, entryFine, withEntry}
 use Rattle.survey.specs.Put.{putNumbers}
 use Rattle.survey.specs.Kept.{wordsOf}
-use Rattle.survey.specs.declared.sums.Sums.{Sums}
+use Rattle.survey.specs.declared.gathered.Gathered.{Gathered}
 use Rattle.survey.proofs.Components.{out-of-range, entry-bad, entry-good}
 use Rattle.survey.proofs.Keeping.{keeps-none}
 use Rattle.survey.proofs.component.resolution.Statement.{statement}
@@ -28,6 +31,13 @@ module _ (c : tie.After-entry) where
 
   entry-is : c .entry .result ≡ entryFrom (now (start c .args .e)) (start c .args .at) (start c .args .axes) (start c .args .level)
   entry-is = c .entry .ensures ∙ (λ i. entryOf (start c .args .axes) (start c .args .level) (c .before .before .before .before .word-at .ensures i) (c .before .before .before .word-at2 .ensures i))
+
+  small : (c .entry .result .pdx < 16) × (c .entry .result .pdy < 16)
+  small =
+      let x = c .before .before .before .before .word-at .result in
+      let y = c .before .before .before .word-at2 .result in
+      let b = and-true (leb x 15) (leb y 15) ranged in
+      rw (c .entry .ensures) (omega (arith, leb-true x 15 (b .0)), omega (arith, leb-true y 15 (b .1)))
 
 -- the sizes decide
 fine-is : (c : tie.After-sizes-right) → entryFine (now (start (c .before) .args .e)) (start (c .before) .args .at) (start (c .before) .args .check) (start (c .before) .args .axes) (start (c .before) .args .level) ≡ c .sizes-right .result
@@ -57,7 +67,7 @@ returns c =
     let a = c .before .before .before .before .before .before .before .args in
     let out = rw (c .before .before .before .before .word-at .ensures, c .before .before .before .word-at2 .ensures) at (sym (c .before .before .exponents-in-range .ensures) ∙ not-true _ (c .before .if1 .taken)) in (
       c .none .ensures ∙ sym (entry-bad (now (a .e)) (a .at) (a .check) (a .axes) (a .level) (a .held) (out-of-range (now (a .e)) (a .at) (a .check) (a .axes) (a .level) out)),
-      keeps-none (now (a .kept)) _ (a .to) _ _ (ap (λ (s : Sums). s .good) (c .none .ensures)),
+      keeps-none (now (a .kept)) _ (a .to) _ _ (ap (λ (g : Gathered). g .good) (c .none .ensures)),
     )
 
 entry-requires : tie.Need-entry-requires
@@ -70,7 +80,9 @@ keep-requires : tie.Need-keep-requires
 keep-requires c κs = search needs
 
 with-requires : tie.Need-with-requires
-with-requires c κs = search needs
+with-requires c κs =
+    let e = c .before .before .before .before .before .before in
+    (start e .pre .1, small e .0, small e .1)
 
 none-requires-2 : tie.Need-none-requires-2
 none-requires-2 c κs = search needs
@@ -82,7 +94,7 @@ returns-2 : tie.Need-returns-2
 returns-2 c =
     let a = start (c .before .before .before .before .before .before .before) .args in (
       c .with .ensures
-          ∙ ap (withEntry (a .held) (a .axes) (a .level)) (entry-is (c .before .before .before .before .before .before .before))
+          ∙ ap (withEntry (a .held) (a .level)) (entry-is (c .before .before .before .before .before .before .before))
           ∙ sym (entry-good (now (a .e)) (a .at) (a .check) (a .axes) (a .level) (a .held) (fine-is (c .before .before .before .before .before .before) ∙ c .before .before .before .before .before .if2 .taken)),
       λ g. c .before .before .before .keep .ensures ∙ ap (λ (n : Entry). putNumbers (now (a .kept)) (a .to) (wordsOf n)) (entry-is (c .before .before .before .before .before .before .before)),
     )
@@ -91,7 +103,7 @@ returns-3 : tie.Need-returns-3
 returns-3 c =
     let a = start (c .before .before .before) .args in (
       c .none2 .ensures ∙ sym (entry-bad (now (a .e)) (a .at) (a .check) (a .axes) (a .level) (a .held) (fine-is (c .before .before) ∙ c .before .if2 .left)),
-      keeps-none (now (a .kept)) _ (a .to) _ _ (ap (λ (s : Sums). s .good) (c .none2 .ensures)),
+      keeps-none (now (a .kept)) _ (a .to) _ _ (ap (λ (g : Gathered). g .good) (c .none2 .ensures)),
     )
 
 pub resolution-spec : {M : Type 1} → statement M

@@ -10,7 +10,7 @@ use Rattle.survey.specs.Passing.{exponentsAt}
 use Rattle.survey.specs.Put.{putNumbers, put-length}
 use Rattle.survey.specs.Kept.{resolutionWords}
 use Rattle.survey.specs.declared.sums.Sums.{Sums}
-use Rattle.survey.proofs.Components.{place-within, Taken, taken-none, taken-more, taken-bad, taken-all}
+use Rattle.survey.proofs.Components.{place-within, Stepped, Taken, taken-none, taken-more, taken-bad, taken-all}
 use Rattle.survey.proofs.Keeping.{words-none, words-more, keeps-none}
 use Rattle.survey.proofs.component.resolutions.Statement.{statement}
 use Rattle.survey.proofs.component.resolutions.Tie as tie
@@ -61,8 +61,7 @@ add-resolution c = omega arith
 
 resolution-requires : tie.Need-resolution-requires Inv-loop μ-loop
 resolution-requires c κs =
-    let p = c .before .before .before .before .before .before .pre in
-    (omega (arith, next-near (c .before)), p .2, p .3, omega arith)
+    (omega (arith, next-near (c .before)), omega arith, omega arith)
 
 add-at : tie.Need-add-at Inv-loop μ-loop
 add-at c = omega (arith, next-near (c .before .before .before .before .before .before))
@@ -97,14 +96,19 @@ returns c =
       keeps-none (now (a .kept)) _ (a .to) _ _ (ap (λ (s : Sums). s .good) (c .none .ensures)),
     )
 
+sums-requires : tie.Need-sums-requires Inv-loop μ-loop
+sums-requires c κs = search needs
+
 same-length-2 : tie.Need-same-length-2 Inv-loop μ-loop
-same-length-2 c = long (c .before)
+same-length-2 c = long (c .before .before)
 
 returns-2 : tie.Need-returns-2 Inv-loop μ-loop
 returns-2 c =
-    let l = c .before .loop in
-    let end : l .r ≡ start (c .before) .args .n = omega arith in
-    (taken-all (l .inv .1) end, λ g. rw end at (l .inv .2))
+    let z = start (c .before .before) in
+    let l = c .before .before .loop in
+    let end : l .r ≡ z .args .n = omega arith in
+    let stepped : Stepped (z .args .axes) = record { x-above = z .pre .2; x-fits = omega (arith, z .good); y-above = z .pre .3; y-fits = omega (arith, z .good) } in
+    (c .sums .ensures ∙ taken-all (l .inv .1) stepped end, λ g. rw end at (l .inv .2))
 
 pub resolutions-spec : {M : Type 1} → statement M
 resolutions-spec =
@@ -127,5 +131,6 @@ resolutions-spec =
     none-requires
     same-length
     returns
+    sums-requires
     same-length-2
     returns-2)
