@@ -6,7 +6,8 @@ use mathlib.Core.List.{List}
 use lib.ListN.{getD}
 use lib.Dec.{ltb, leb, eqb}
 use Rattle.laws.specs.Below.{allBelow, maxBelow, minBelow}
-use Rattle.words.specs.Words.{wordAt}
+use Rattle.words.specs.Words.{wordAt, fourAt}
+use Rattle.words.specs.declared.Four.{Four}
 use Rattle.geometry.specs.Axis.{axisOf, resolutionOf, columnsOf}
 use Rattle.geometry.specs.declared.axis.Axis.{Axis}
 use Rattle.geometry.specs.declared.tile.Area.{Area}
@@ -91,8 +92,11 @@ joinedSums a b =
 abbrev pub entryFrom : List ℕ → ℕ → Axes → ℕ → Entry
 entryFrom e p a level = entryOf a level (wordAt e p) (wordAt e (p + 4))
 
+abbrev pub sizesIn : Four → Bool → ℕ → ℕ → Bool
+sizesIn stands check w h = not check || (eqb (stands .c) w && eqb (stands .d) h)
+
 abbrev pub sizesAt : List ℕ → ℕ → Bool → ℕ → ℕ → Bool
-sizesAt e p check w h = not check || (eqb (wordAt e (p + 8)) w && eqb (wordAt e (p + 12)) h)
+sizesAt e p check w h = sizesIn (fourAt e p) check w h
 
 unfoldable pub entryFine : List ℕ → ℕ → Bool → Axes → ℕ → Bool
 entryFine e p check a level =

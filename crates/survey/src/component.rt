@@ -6,9 +6,11 @@ use crate::places::Places;
 use crate::sums::Sums;
 use geometry::tile::Area;
 use types::state::State;
+use words::Four;
+use words::four_at;
 ghost use mathlib.Core.Path.{_≡_};
 ghost use Prim.Native.Nat.{_+_, _*_, _≤_, _<_};
-ghost use Rattle.survey.specs.Passing.{exponentsAt, sizesAt, entryGathered, resolutionSums, componentSums};
+ghost use Rattle.survey.specs.Passing.{exponentsAt, sizesIn, entryGathered, resolutionSums, componentSums};
 ghost use Rattle.survey.specs.Kept.{Keeps, entryWords, resolutionWords, componentWords};
 
 // The fields of a component's record.
@@ -18,15 +20,12 @@ pub(crate) struct Comp {
     pub resolutions: u32,
 }
 
-// The two words after the exponents at place at are the width and the height, if they are to be checked.
-fn sizes_right(e: &[u8], at: usize, check: bool, width: u32, height: u32) -> bool
-    requires { ⌜ at < 65536 ⌝ }
-    ensures { λ r. ⌜ r ≡ sizesAt (now (e .entry)) at check width height ⌝ }
+// The sizes that stand after the exponents are these, if they are to be checked.
+fn sizes_right(stands: Four, check: bool, width: u32, height: u32) -> bool
+    ensures { λ r. ⌜ r ≡ sizesIn stands check width height ⌝ }
 {
     if check {
-        let w = words::word_at(e, at + 8);
-        let h = words::word_at(e, at + 12);
-        (w == width) & (h == height)
+        (stands.c == width) & (stands.d == height)
     } else {
         true
     }
@@ -43,17 +42,16 @@ fn resolution(
     kept: &mut [u32],
     to: usize,
 ) -> Gathered
-    requires { ⌜ (at < 65536) × (level < 33) × (to < 65536) ⌝ }
+    requires { ⌜ (level < 33) × (to < 65536) ⌝ }
     ensures gathered { λ r. ⌜ r ≡ entryGathered (now (e .entry)) at check axes level held ⌝ }
     ensures keeps { λ r. ⌜ Keeps (now (kept .entry)) (now (kept .exit)) to (r .good) (entryWords (now (e .entry)) at axes level) ⌝ }
 {
-    let pdx = words::word_at(e, at);
-    let pdy = words::word_at(e, at + 4);
-    if !State::exponents_in_range(pdx, pdy) {
+    let stands = four_at(e, at);
+    if !State::exponents_in_range(stands.a, stands.b) {
         return Gathered::none();
     }
-    let entry = axes.entry(level, pdx, pdy);
-    let right = sizes_right(e, at, check, entry.width, entry.height);
+    let entry = axes.entry(level, stands.a, stands.b);
+    let right = sizes_right(stands, check, entry.width, entry.height);
     if right {
         kept::keep(kept, to, entry);
         held.with(level, entry)

@@ -60,8 +60,7 @@ add-resolution : tie.Need-add-resolution Inv-loop μ-loop
 add-resolution c = omega arith
 
 resolution-requires : tie.Need-resolution-requires Inv-loop μ-loop
-resolution-requires c κs =
-    (omega (arith, next-near (c .before)), omega arith, omega arith)
+resolution-requires c κs = (omega arith, omega arith)
 
 add-at : tie.Need-add-at Inv-loop μ-loop
 add-at c = omega (arith, next-near (c .before .before .before .before .before .before))
