@@ -17,7 +17,7 @@ use Rattle.geometry.specs.declared.axis.Columns.{Columns}
 use Rattle.geometry.specs.declared.axis.Resolution.{Resolution}
 use Rattle.types.specs.Ranges.{exponentRange}
 use Rattle.survey.specs.Capped.{capped-max}
-use Rattle.survey.specs.Passing.{countOf, startGathered, noGathered, noSums, withEntry, sumsOf, entryFrom, entryFine, entryGathered, gatheredTo, passed, resolutionSums, exponentsAt}
+use Rattle.survey.specs.Passing.{countOf, startGathered, noGathered, noSums, withEntry, sumsOf, entryFrom, entryFine, entryGathered, exponentAt, gatheredTo, passed, resolutionSums, exponentsAt}
 use Rattle.survey.specs.declared.places.Places.{Places}
 use Rattle.survey.specs.declared.axes.Axes.{Axes}
 use Rattle.survey.specs.declared.gathered.Gathered.{Gathered}
@@ -66,8 +66,8 @@ module _ (d : ℕ) (above : 1 ≤ d) (fits : d ≤ 4294967295) (k : ℕ → ℕ)
 gathered-sums : (e : List ℕ) (q : ℕ → ℕ) (a : Axes) (n : ℕ) → Stepped a → sumsOf a (gatheredTo e q a n n) ≡ passed e q a n
 unfolding gatheredTo passed
 gathered-sums e q a n s =
-    let x : ℕ → ℕ = λ r. wordAt e (q r) + (n - 1 - r) in
-    let y : ℕ → ℕ = λ r. wordAt e (q r + 4) + (n - 1 - r) in
+    let x : ℕ → ℕ = λ r. exponentAt e (q r) (n - 1 - r) in
+    let y : ℕ → ℕ = λ r. exponentAt e (q r + 4) (n - 1 - r) in
     rw (all-and (λ r. leb (a .x .d * 2 ^ x r) 4294967295) (λ r. leb (a .y .d * 2 ^ y r) 4294967295) n, fit-told (a .x .d) (s .x-above) (s .x-fits) x n, fit-told (a .y .d) (s .y-above) (s .y-fits) y n, least-told (a .x .d) (s .x-above) (s .x-fits) x n, least-told (a .y .d) (s .y-above) (s .y-fits) y n)
 
 -- after r of n resolutions the exponents of the next stand at place `at`, and everything before was good

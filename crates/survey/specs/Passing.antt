@@ -105,9 +105,12 @@ entryFine e p check a level =
 unfoldable pub entryGathered : List ℕ → ℕ → Bool → Axes → ℕ → Gathered → Gathered
 entryGathered e p check a level g = cond (entryFine e p check a level) (withEntry g level (entryFrom e p a level)) noGathered
 
--- its precincts and steps
+-- its precincts, the exponent of its step on the axis whose precinct exponent stands at place p, and its steps
 abbrev pub precinctsAt : List ℕ → ℕ → Axes → ℕ → ℕ
 precinctsAt e p a level = entryFrom e p a level .width * entryFrom e p a level .height
+
+abbrev pub exponentAt : List ℕ → ℕ → ℕ → ℕ
+exponentAt e p level = wordAt e p + level
 
 abbrev pub strideX : List ℕ → ℕ → Axes → ℕ → ℕ
 strideX e p a level = strideOf (a .x) level (wordAt e p)
@@ -121,10 +124,10 @@ gatheredTo e q a n k =
     record {
       good = true;
       most = capped (maxBelow (λ r. precinctsAt e (q r) a (n - 1 - r)) k);
-      «x_low» = minBelow 32 (λ r. wordAt e (q r) + (n - 1 - r)) k;
-      «x_high» = maxBelow (λ r. wordAt e (q r) + (n - 1 - r)) k;
-      «y_low» = minBelow 32 (λ r. wordAt e (q r + 4) + (n - 1 - r)) k;
-      «y_high» = maxBelow (λ r. wordAt e (q r + 4) + (n - 1 - r)) k;
+      «x_low» = minBelow 32 (λ r. exponentAt e (q r) (n - 1 - r)) k;
+      «x_high» = maxBelow (λ r. exponentAt e (q r) (n - 1 - r)) k;
+      «y_low» = minBelow 32 (λ r. exponentAt e (q r + 4) (n - 1 - r)) k;
+      «y_high» = maxBelow (λ r. exponentAt e (q r + 4) (n - 1 - r)) k;
     }
 
 unfoldable pub passed : List ℕ → (ℕ → ℕ) → Axes → ℕ → Sums

@@ -46,6 +46,7 @@ fn resolution(
     ensures gathered { λ r. ⌜ r ≡ entryGathered (now (e .entry)) at check axes level held ⌝ }
     ensures keeps { λ r. ⌜ Keeps (now (kept .entry)) (now (kept .exit)) to (r .good) (entryWords (now (e .entry)) at axes level) ⌝ }
 {
+    // the exponents, and in a table the sizes
     let stands = four_at(e, at);
     if !State::exponents_in_range(stands.a, stands.b) {
         return Gathered::none();

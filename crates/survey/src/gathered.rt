@@ -69,7 +69,7 @@ impl Gathered {
         }
     }
 
-    // What it says of a component on these axes.
+    // What it says of a component on these axes; the levels are in the exponents already.
     pub(crate) fn sums(self, axes: Axes) -> Sums
         requires { ⌜ (1 ≤ axes .x .d) × (1 ≤ axes .y .d) ⌝ }
         ensures { λ r. ⌜ r ≡ sumsOf axes self ⌝ }
