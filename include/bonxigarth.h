@@ -24,7 +24,7 @@ enum {
     BONXIGARTH_BAD_LENGTH = -1,    /* the sheet is empty, not a multiple of 32 bytes, or over 577 records */
     BONXIGARTH_BAD_SHAPE = -2,     /* a kind is wrong at its place, an unnamed word is not 0, records are missing or left over */
     BONXIGARTH_BAD_RANGE = -3,     /* a field is out of range */
-    BONXIGARTH_BAD_GRID = -4,      /* a position order whose steps are too large (in order 4, of its own components), or in orders 2 and 3 not multiples of the smallest */
+    BONXIGARTH_BAD_GRID = -4,      /* a position order whose steps are too large (in order 4, of its own components), or of kinds 4 and 5 in orders 2 and 3 not multiples of the smallest */
     BONXIGARTH_TOO_MANY = -5,      /* the tile needs more than 65,536 marks */
     BONXIGARTH_SHORT_MARKS = -6,   /* marks has fewer bytes than the tile needs */
     BONXIGARTH_SHORT_TABLE = -7,   /* table has fewer than 16 bytes for each resolution */
@@ -51,6 +51,7 @@ enum {
  *            2 dx dy resolutions                                  a component, followed by its resolutions, lowest first
  *            3 pdx pdy                                            a resolution
  *            4 prg resno0 compno0 layno1 resno1 compno1           a progression: after the last component, as many as word 8 of the tile says
+ *            6 prg resno0 compno0 layno1 resno1 compno1           the same where steps need not be multiples of the smallest; 4 and 6 may be mixed
  *            5 prg                                                or one for the whole tile
  *          It is only read.
  * table    working space, 16 bytes for each resolution: pdx, pdy and the width and height in precincts are written there, component after component

@@ -17,8 +17,10 @@ use crate::model::{self, Answer, Points};
 /// The most places that a walk by strides looks at in one sheet that is compared here.
 const VISITS: u128 = 3_000_000;
 
-/// The most tests of a point for which the model also tests every point.
+/// The most tests of a point for which the model also tests every point; and where a progression is of kind 6, of
+/// which the Rust says nothing.
 const EVERY_POINT: u128 = 20_000;
+const EVERY_POINT_MIXED: u128 = 300_000;
 
 /// What was compared.
 #[derive(Default)]
@@ -32,8 +34,9 @@ pub struct Tally {
     pub outside_domain: u64,
     /// Accepted sheets with too large a grid to ask anyone.
     pub sparse: u64,
-    /// Sheets whose every grid point was tested, beside the candidates.
+    /// Sheets whose every grid point was tested, beside the candidates; and of these with a progression of kind 6.
     pub every_point: u64,
+    pub mixed: u64,
     /// Precincts whose rectangles were counted sample by sample.
     pub rectangles: u64,
     /// Precincts met at a point, which was compared with the rectangle's corner; once for each progression.
@@ -79,10 +82,12 @@ pub fn is_sparse(bytes: &[u8]) -> bool {
 fn every_point(bytes: &[u8], answer: &Answer, tile: &Tile, tally: &mut Tally) -> Result<(), String> {
     let points = (tile.x.end - tile.x.start) as u128 * (tile.y.end - tile.y.start) as u128;
     let tests = points * tile.resolutions().count() as u128 * answer.sheet.progressions.count() as u128;
-    if tests > EVERY_POINT {
+    let mixed = answer.sheet.progressions.any_mixed();
+    if tests > if mixed { EVERY_POINT_MIXED } else { EVERY_POINT } {
         return Ok(());
     }
     tally.every_point += 1;
+    tally.mixed += mixed as u64;
     let plain = model::run(bytes, Points::Every).map_err(|number| format!("model: refused {number}"))?;
     same("the model's packets, every point", &answer.packets, &plain.packets)
 }

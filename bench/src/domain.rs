@@ -8,8 +8,11 @@ use crate::model::ranges;
 const WRAP: u64 = 1 << 32;
 
 /// Whether an accepted sheet lies in the domain: no advance of its walks and no resolution end rounded up
-/// to a multiple of 2^pd reaches 2^32.
+/// to a multiple of 2^pd reaches 2^32. The Rust has no kind 6: by its stride it misses precincts there.
 pub fn contains(sheet: &Sheet, tile: &Tile) -> bool {
+    if sheet.progressions.any_mixed() {
+        return false;
+    }
     let rounded = |side: &Side| side.end.next_multiple_of(1 << side.pd);
     let ends_fit =
         tile.resolutions().all(|resolution| rounded(&resolution.x) < WRAP && rounded(&resolution.y) < WRAP);

@@ -20,14 +20,14 @@ pub struct Component {
     pub resolutions: Vec<(u32, u32)>,
 }
 
-/// All of kind 4, or one of kind 5.
+/// All of kinds 4 and 6, or one of kind 5.
 #[derive(Clone, Debug, PartialEq)]
 pub enum Progressions {
     Ranges(Vec<Range>),
     WholeTile(i32),
 }
 
-/// A progression of kind 4.
+/// A progression of kind 4 or 6.
 #[derive(Clone, Copy, Debug, PartialEq)]
 pub struct Range {
     pub prg: i32,
@@ -36,6 +36,8 @@ pub struct Range {
     pub layno1: u32,
     pub resno1: u32,
     pub compno1: u32,
+    /// Of kind 6: its steps need not divide one another.
+    pub mixed: bool,
 }
 
 /// One record of 32 bytes.
@@ -67,6 +69,11 @@ impl Progressions {
         }
     }
 
+    /// Whether one is of kind 6.
+    pub fn any_mixed(&self) -> bool {
+        matches!(self, Progressions::Ranges(ranges) if ranges.iter().any(|range| range.mixed))
+    }
+
     /// The order number of each progression.
     pub fn orders(&self) -> Vec<i32> {
         match self {
@@ -90,8 +97,8 @@ impl Sheet {
         match &self.progressions {
             Progressions::WholeTile(prg) => records.push([5, *prg as u32, 0, 0, 0, 0, 0, 0]),
             Progressions::Ranges(ranges) => records.extend(ranges.iter().map(|range| {
-                let Range { prg, resno0, compno0, layno1, resno1, compno1 } = *range;
-                [4, prg as u32, resno0, compno0, layno1, resno1, compno1, 0]
+                let Range { prg, resno0, compno0, layno1, resno1, compno1, mixed } = *range;
+                [if mixed { 6 } else { 4 }, prg as u32, resno0, compno0, layno1, resno1, compno1, 0]
             })),
         }
         records

@@ -28,7 +28,7 @@ pub fn usual(prg: i32, exponent: u32) -> Sheet {
 
 /// One thing of the usual sheet changed: what that costs.
 pub fn grown() -> Vec<(&'static str, Sheet)> {
-    let beyond = Range { prg: 3, resno0: 0, compno0: 0, layno1: 3, resno1: 33, compno1: 3 };
+    let beyond = Range { prg: 3, resno0: 0, compno0: 0, layno1: 3, resno1: 33, compno1: 3, mixed: false };
     let beyond = Sheet { progressions: Progressions::Ranges(vec![beyond]), ..usual(3, 6) };
     let usual = usual(2, 6);
     let mut resolutions = usual.clone();
@@ -36,7 +36,7 @@ pub fn grown() -> Vec<(&'static str, Sheet)> {
         component.resolutions = vec![(6, 6); 12];
     }
     let components = [usual.components.clone(), usual.components.clone()].concat();
-    let none = Range { prg: 2, resno0: 0, compno0: 0, layno1: 0, resno1: 0, compno1: 3 };
+    let none = Range { prg: 2, resno0: 0, compno0: 0, layno1: 0, resno1: 0, compno1: 3, mixed: false };
     vec![
         ("RPCL, precincts of 64", usual.clone()),
         ("packets doubled (width 2048)", Sheet { tx1: 2048, ..usual.clone() }),

@@ -81,6 +81,7 @@ fn tell(what: &str, tally: &Tally) {
         outside_domain,
         sparse,
         every_point,
+        mixed,
         rectangles,
         corners,
         stepped,
@@ -90,7 +91,7 @@ fn tell(what: &str, tally: &Tally) {
     println!(
         "{what}: {sheets}; accepted with {packets} packets; compared with the Rust: {with_rust} \
          (orders 0 to 4: {orders:?}); outside its domain: {outside_domain}; too large a grid: \
-         {sparse}; every point tested too: {every_point}; rectangles counted too: {rectangles}; corners met at a \
+         {sparse}; every point tested too: {every_point}, of them with kind 6: {mixed}; rectangles counted too: {rectangles}; corners met at a \
          point: {corners}; run by single steps too: {stepped}; refused: {}; no difference",
         refused.join(", ")
     );

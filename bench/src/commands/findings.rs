@@ -20,7 +20,7 @@ fn sheets() -> Vec<(&'static str, String)> {
     };
     let onward = |prg: u32| format!("1 T-1 0 T 2 1 1 1, 2 1 1 1, 3 1, 5 {prg}");
     let upward = |prg: u32| format!("1 0 T-1 0 T 1 1 1, 2 1 1 1, 3 1 1, 5 {prg}");
-    let crossing = |prg: u32| format!("1 0 0 4 1 1 2 1, 2 2 1 1, 3, 2 3 1 1, 3, 5 {prg}");
+    let crossing = |change: &str| format!("1 0 0 4 1 1 2 1, 2 2 1 1, 3, 2 3 1 1, 3, {change}");
     let ended = "1 0 0 64 32 2 1 1, 2 1 1 2, 3 4 4, 3 5 5, 4 0 0 0 0 2 1";
     let component = "2 128 1 1, 3 15";
     let astray = format!("1 4290772992 0 4290772993 1024 1 2 1, {component}, {component}, 4 2 0 1 1 1 2");
@@ -38,8 +38,10 @@ fn sheets() -> Vec<(&'static str, String)> {
         ("the same with a height", "1 0 0 T 1 1 1 1, 2 1 1 1, 3 15 15, 5 0".into()),
         ("P-j", "1 4294934528 0 T 1 1 1 1, 2 1 1 1, 3 15 15, 5 2".into()),
         ("an end one step before", "1 4294934527 0 4294934528 1 1 1 1, 2 1 1 1, 3 15 15, 5 2".into()),
-        ("steps of 2 and 3, order 2", crossing(2)),
-        ("steps of 2 and 3, order 3", crossing(3)),
+        ("steps of 2 and 3, order 2", crossing("5 2")),
+        ("steps of 2 and 3, order 3", crossing("5 3")),
+        ("the same of kind 6, order 2", crossing("6 2 0 0 1 1 2")),
+        ("the same of kind 6, order 3", crossing("6 3 0 0 1 1 2")),
         ("a step of 2^32, order 2", exponents_15(2, 2, 17)),
         ("a step of 2^32, order 3", exponents_15(3, 2, 17)),
         ("a step of 2^32, order 4", exponents_15(4, 2, 17)),

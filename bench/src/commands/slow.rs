@@ -19,6 +19,7 @@ struct Slow {
 fn sheets() -> Vec<Slow> {
     let slow = |name, words: String, packets| Slow { name, words, packets };
     let row = |prg: u32| format!("1 0 1 T 2 1 1 1, 2 1 255 1, 3 0 0, 5 {prg}");
+    let mixed = |prg: u32| format!("1 0 1 T 2 1 2 1, 2 2 255 1, 3 0 0, 2 3 255 1, 3 0 0, 6 {prg} 0 0 1 1 2");
     let empty = |prg: u32| {
         let component = "2 1 1 33,".to_string() + &"3 0 0,".repeat(33);
         let range = format!("4 {prg} 0 0 65535 33 16,");
@@ -34,6 +35,8 @@ fn sheets() -> Vec<Slow> {
         slow("a row of points, order 2", row(2), 0),
         slow("a row of points, order 3", row(3), 0),
         slow("a row of points, order 4", row(4), 0),
+        slow("a row of points, steps of 2 and 3, kind 6, order 2", mixed(2), 0),
+        slow("a row of points, steps of 2 and 3, kind 6, order 3", mixed(3), 0),
         slow("the same row, 16 components of 31 resolutions, 32 times", deep, 0),
         slow("columns beside rows, 32 times", crossed, 32_445),
         slow("columns beside rows in a square", square, 65_536),

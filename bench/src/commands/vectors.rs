@@ -37,6 +37,8 @@ pub fn run(arguments: &mut Arguments) -> Result<(), String> {
             (rectangles::KIND, rectangles::cases()),
             (limits::KIND, limits::cases_beside_wide()),
             (steps::KIND, steps::cases_beside_wide()),
+            (limits::KIND, limits::cases_mixed()),
+            (steps::KIND, steps::cases_mixed()),
         ],
     )
 }

@@ -27,7 +27,7 @@ fn damage_records(random: &mut Random, records: &mut Vec<Record>) {
         1 => records.insert(place, records[place]),
         2 => records[place][0] = random.between(0, 7),
         3 => records[place][random.between(1, 7) as usize] = random.edge(),
-        4 => records.push([random.between(0, 5), 0, 0, 0, 0, 0, 0, 0]),
+        4 => records.push([random.between(0, 6), 0, 0, 0, 0, 0, 0, 0]),
         5 => {
             let word = &mut records[place][random.between(0, 7) as usize];
             *word = if random.once_in(2) { word.wrapping_add(1) } else { word.wrapping_sub(1) };
@@ -60,7 +60,7 @@ fn beyond_range(random: &mut Random, record: &mut Record) {
         ]),
         2 => random.one_of(&[(1, 0), (1, 256), (2, 0), (2, 256), (3, 0), (3, 34)]),
         3 => random.one_of(&[(1, 16), (2, 16), (3, 1), (7, 1)]),
-        4 => random.one_of(&[(2, 33), (4, 65_536), (5, 34), (7, 1), (2, 32), (4, 65_535), (5, 33)]),
+        4 | 6 => random.one_of(&[(2, 33), (4, 65_536), (5, 34), (7, 1), (2, 32), (4, 65_535), (5, 33)]),
         _ => random.one_of(&[(2, 1), (6, 1), (7, 1)]),
     };
     record[word] = value;

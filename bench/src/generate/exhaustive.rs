@@ -90,6 +90,7 @@ fn two_progressions(number: u64) -> Sheet {
         layno1: 1 + bounds[2],
         resno1: 1 + bounds[3],
         compno1: 1 + end,
+        mixed: false,
     };
     let ranges = vec![range(orders[0], &bounds[..4], ends[0]), range(orders[1], &bounds[4..], ends[1])];
     let components = vec![

@@ -49,6 +49,36 @@ pub fn sheets_beside_wide() -> Vec<Vec<u8>> {
     sheets.iter().map(|words| from_words(words).unwrap()).collect()
 }
 
+/// Progressions of kind 6: each word at its edges, beside kinds 4 and 5, on grids that kind 4 has not agreed, and with
+/// steps of more than 32 bits.
+pub fn sheets_mixed() -> Vec<Vec<u8>> {
+    let planes = "2 2 1 1, 3 4 4, 2 3 1 1, 3 4 4";
+    let with = |count: usize, changes: &str| format!("1 1 0 64 32 1 2 {count}, {planes}, {changes}");
+    let (mixed, plain) = ("6 2 0 0 1 1 2", "4 0 0 0 1 1 2");
+    let mut sheets = changed_words(&records(&with(1, mixed)), 5);
+    let mut words: Vec<String> = (0..6).map(|prg| with(1, &format!("6 {prg} 0 0 1 1 2"))).collect();
+    words.extend([
+        with(2, &format!("{mixed}, {plain}")),
+        with(2, &format!("{plain}, {mixed}")),
+        with(2, &format!("{mixed}, {mixed}")),
+        with(2, &format!("{mixed}, 4 3 0 0 1 1 2")),
+        with(2, &format!("4 4 0 0 1 1 2, {mixed}")),
+        with(2, &format!("{mixed}, 5 2")),
+        with(2, &format!("5 2, {mixed}")),
+        with(1, &format!("{mixed}, 5 2")),
+        with(1, &format!("5 2, {mixed}")),
+    ]);
+    let wide = format!("2 1 1 18, {}", "3 15 15,".repeat(18));
+    for prg in 0..5 {
+        for compno1 in 1..=3 {
+            let luma = "2 1 1 1, 3 1 1";
+            words.push(format!("1 0 0 8 4 1 2 1, {luma}, {wide} 6 {prg} 0 0 1 33 {compno1}"));
+        }
+    }
+    sheets.extend(words.iter().map(|words| from_words(words).unwrap()));
+    sheets
+}
+
 fn records(words: &str) -> Vec<Record> {
     let bytes = from_words(words).unwrap();
     let word = |bytes: &[u8]| u32::from_be_bytes(bytes.try_into().unwrap());
@@ -73,7 +103,7 @@ fn changed_words(base: &[Record], from: usize) -> Vec<Vec<u8>> {
 /// The values next to the ends of a word's range, on either side.
 fn edges(record: &Record, word: usize) -> Vec<u32> {
     match (record[0], word) {
-        (kind, 0) => (0..7).filter(|&other| other != kind).collect(),
+        (kind, 0) => (0..8).filter(|&other| other != kind).collect(),
         (1, 1 | 2) => vec![record[word + 2], record[word + 2] + 1],
         (1, 3 | 4) => vec![record[word - 2], record[word - 2].wrapping_sub(1)],
         (1, 5) => vec![0, 1, 65_535, 65_536],
@@ -82,11 +112,11 @@ fn edges(record: &Record, word: usize) -> Vec<u32> {
         (2, 1 | 2) => vec![0, 1, 255, 256],
         (2, 3) => vec![0, 3, 33, 34],
         (3, 1 | 2) => vec![0, 15, 16],
-        (4 | 5, 1) => vec![1, 3, 5, u32::MAX, 1 << 31],
-        (4, 2) => vec![32, 33],
-        (4, 3 | 6) => vec![2, 3, u32::MAX],
-        (4, 4) => vec![0, 65_535, 65_536],
-        (4, 5) => vec![0, 33, 34],
+        (4..=6, 1) => vec![1, 3, 5, u32::MAX, 1 << 31],
+        (4 | 6, 2) => vec![32, 33],
+        (4 | 6, 3 | 6) => vec![2, 3, u32::MAX],
+        (4 | 6, 4) => vec![0, 65_535, 65_536],
+        (4 | 6, 5) => vec![0, 33, 34],
         _ => vec![1],
     }
 }
@@ -99,7 +129,7 @@ fn other_records(base: &[Record]) -> Vec<Vec<u8>> {
         sheets.push(bytes_of(&[before, &after[1..]].concat()));
         sheets.push(bytes_of(&[before, &after[..1], after].concat()));
     }
-    let left_over = (0..7).map(|kind| [base, &[[kind, 0, 0, 0, 0, 0, 0, 0]]].concat());
+    let left_over = (0..8).map(|kind| [base, &[[kind, 0, 0, 0, 0, 0, 0, 0]]].concat());
     sheets.extend(left_over.map(|records| bytes_of(&records)));
     sheets
 }

@@ -15,6 +15,7 @@ pub fn any(random: &mut Random) -> Sheet {
         0 => at_marks_limit(random),
         1 | 2 => within_ranges(random),
         3..=5 => beside_wide(random),
+        6..=8 => mixed(random),
         _ => usual(random),
     }
 }
@@ -76,6 +77,39 @@ pub fn beside_wide(random: &mut Random) -> Sheet {
         .collect();
     sheet.progressions = Progressions::Ranges(ranges);
     settle(random, sheet, VISITS)
+}
+
+/// Planes whose steps need not divide one another, with progressions of kind 6, and of kind 4 among them (02, P6). The
+/// tile is so small that every point of it can be tested.
+pub fn mixed(random: &mut Random) -> Sheet {
+    let step = |random: &mut Random| random.one_of(&[1, 2, 2, 3, 3, 4, 5, 6]);
+    let components: Vec<Component> = (0..random.between(1, 4))
+        .map(|_| Component {
+            dx: step(random),
+            dy: step(random),
+            resolutions: (0..random.between(1, 4))
+                .map(|_| (random.between(0, 3), random.between(0, 3)))
+                .collect(),
+        })
+        .collect();
+    let side = |random: &mut Random| {
+        let length = random.between(0, 64);
+        let anywhere = random.word();
+        let start = random.one_of(&[0, 1, 5, 48, 96, 97, anywhere, u32::MAX]).min(u32::MAX - length);
+        (start, start + length)
+    };
+    let ((tx0, tx1), (ty0, ty1)) = (side(random), side(random));
+    let layers = random.one_of(&[1, 1, 2, 3]);
+    let ranges = (0..random.between(1, 3))
+        .map(|_| {
+            let mixed = !random.once_in(4);
+            let prg = if mixed { random.one_of(&[2, 3, 4]) } else { random.one_of(&[0, 1, 4]) };
+            let prg = if random.once_in(16) { order(random) } else { prg };
+            Range { prg, mixed, ..range(random, layers, &components) }
+        })
+        .collect();
+    let progressions = Progressions::Ranges(ranges);
+    settle(random, Sheet { tx0, ty0, tx1, ty1, layers, components, progressions }, VISITS)
 }
 
 /// One of the five orders; now and then none.
@@ -173,7 +207,15 @@ fn progressions(random: &mut Random, prg: i32, layers: u32, components: &[Compon
 fn range(random: &mut Random, layers: u32, components: &[Component]) -> Range {
     let resolutions = components.iter().map(|component| component.resolutions.len() as u32).max().unwrap();
     let components = components.len() as u32;
-    let mut range = Range { prg: 0, resno0: 0, compno0: 0, layno1: layers, resno1: 33, compno1: components };
+    let mut range = Range {
+        prg: 0,
+        resno0: 0,
+        compno0: 0,
+        layno1: layers,
+        resno1: 33,
+        compno1: components,
+        mixed: false,
+    };
     // A range of one kind may be empty, but seldom is.
     let empty = random.once_in(8);
     if random.once_in(2) {

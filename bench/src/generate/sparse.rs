@@ -12,8 +12,15 @@ pub fn any(random: &mut Random) -> Sheet {
     let (ty0, ty1) = interval(random);
     let layers = random.one_of(&[1, 1, 1, 2, 65_535]);
     let prg = random.one_of(&[0, 1, 2, 2, 3, 3, 4, 4]);
-    let range =
-        Range { prg, resno0: 0, compno0: 0, layno1: layers, resno1: 33, compno1: components.len() as u32 };
+    let range = Range {
+        prg,
+        resno0: 0,
+        compno0: 0,
+        layno1: layers,
+        resno1: 33,
+        compno1: components.len() as u32,
+        mixed: false,
+    };
     let ranges = vec![range; random.one_of(&[1, 1, 2, 32])];
     let progressions = Progressions::Ranges(ranges);
     let sheet = Sheet { tx0, ty0, tx1, ty1, layers, components, progressions };

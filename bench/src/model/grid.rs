@@ -1,4 +1,4 @@
-//! 01, 'Ranges and orders', and 02, P5: the agreed grid, -4 otherwise.
+//! 01, 'Ranges and orders', and 02, P5 and P6: the agreed grid, -4 otherwise.
 
 use oracle::sheet::Range;
 
@@ -8,7 +8,7 @@ use super::geometry::{Resolution, Tile};
 pub fn is_agreed(tile: &Tile, range: &Range) -> bool {
     let components = tile.components.len() as u32;
     match range.prg {
-        2 | 3 => tile.resolutions().all(fits) && is_divided(tile),
+        2 | 3 => tile.resolutions().all(fits) && (range.mixed || is_divided(tile)),
         // One that has no positions for its components asks of none.
         4 if range.compno0 >= components || range.compno1 > components => true,
         4 => (range.compno0..range.compno1).all(|compno| tile.components[compno as usize].iter().all(fits)),

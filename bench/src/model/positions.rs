@@ -33,6 +33,7 @@ pub fn ranges(sheet: &Sheet, tile: &Tile) -> Vec<Range> {
             layno1: sheet.layers,
             resno1: tile.largest_resolutions() as u32,
             compno1: sheet.components.len() as u32,
+            mixed: false,
         }],
         Progressions::Ranges(ranges) => {
             ranges.iter().map(|range| Range { layno1: range.layno1.min(sheet.layers), ..*range }).collect()

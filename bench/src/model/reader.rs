@@ -40,18 +40,18 @@ fn component(records: &mut impl Iterator<Item = Record>) -> Result<Component, i3
     Ok(Component { dx, dy, resolutions })
 }
 
-/// All kind 4, or exactly one of kind 5.
+/// All of kind 4 or 6, or exactly one of kind 5.
 fn read_progressions(records: &mut impl Iterator<Item = Record>, count: u32) -> Result<Progressions, i32> {
     let mut ranges = Vec::new();
     for _ in 0..count {
         let record = records.next().ok_or(MALFORMED)?;
         let [kind, prg, resno0, compno0, layno1, resno1, compno1, unnamed] = record;
         match kind {
-            4 => {
+            4 | 6 => {
                 well_formed(unnamed == 0)?;
                 in_range(resno0 <= 32 && resno1 <= 33 && layno1 <= 65_535)?;
                 let prg = prg as i32;
-                ranges.push(Range { prg, resno0, compno0, layno1, resno1, compno1 });
+                ranges.push(Range { prg, resno0, compno0, layno1, resno1, compno1, mixed: kind == 6 });
             }
             5 => {
                 well_formed(count == 1 && record[2..].iter().all(|&word| word == 0))?;

@@ -1,4 +1,4 @@
-//! 01's sheets A and P-a to P-l, and B7's slow ones, through the model; and the rectangles of their precincts.
+//! 01's sheets A and P-a to P-l, those of 02's P5 and P6, and slow ones, through the model; and the rectangles of their precincts.
 
 use super::{
     accept, counted, read, rectangle, run, Answer, Cursor, Place, Points, Position, Rectangle, Step, Steps,
@@ -85,6 +85,29 @@ fn order_4_asks_of_its_components_alone() {
     for refused in ["4 4 0 0 1 33 2", "4 4 0 1 1 33 2", "5 4", "4 2 0 0 1 33 1", "4 3 0 2 1 33 1"] {
         assert_eq!(ask(&alpha(refused)).err(), Some(-4));
     }
+}
+
+#[test]
+fn kind_6_goes_over_steps_that_do_not_divide() {
+    let planes = |changes: &str| {
+        let count = changes.matches(',').count() + 1;
+        format!("1 0 0 64 32 1 2 {count}, 2 2 1 1, 3 4 4, 2 3 1 1, 3 4 4, {changes}")
+    };
+    let of = |packets: &[[u32; 2]]| packets.iter().map(|&[c, k]| [0, 0, c, k]).collect::<Vec<_>>();
+    let by_points = of(&[[0, 0], [1, 0], [0, 1], [1, 1], [0, 2], [1, 2], [0, 3], [1, 3]]);
+    let by_components = of(&[[0, 0], [0, 1], [0, 2], [0, 3], [1, 0], [1, 1], [1, 2], [1, 3]]);
+    assert_eq!(listed(&planes("6 2 0 0 1 1 2")), by_points);
+    assert_eq!(listed(&planes("6 3 0 0 1 1 2")), by_points);
+    assert_eq!(listed(&planes("6 4 0 0 1 1 2")), by_components);
+    assert_eq!(listed(&planes("4 0 0 0 1 1 1, 6 2 0 0 1 1 2")), by_components);
+    assert_eq!(listed(&planes("6 3 0 0 1 1 2, 4 0 0 0 1 1 1")), by_points);
+    assert_eq!(ask(&planes("6 2 0 0 1 1 2, 4 2 0 0 1 1 2")).err(), Some(-4));
+    for refused in ["6 2 0 0 1 1 2, 5 2", "5 2, 6 2 0 0 1 1 2", "6 2 0 0 1 1 2 1", "7 2 0 0 1 1 2"] {
+        assert_eq!(ask(&planes(refused)).err(), Some(-2));
+    }
+    let wide = |change: &str| format!("1 0 0 1 1 1 1 1, 2 1 1 18, {} {change}", "3 15 15,".repeat(18));
+    assert_eq!(ask(&wide("6 2 0 0 1 33 1")).err(), Some(-4));
+    assert!(ask(&wide("6 1 0 0 1 33 1")).is_ok() && ask(&wide("6 4 0 1 1 33 1")).is_ok());
 }
 
 #[test]

@@ -1,4 +1,4 @@
--- 01's worked cases P-a to P-l ('Listing program and its sheets') and 02's P5 as rows of a single list, each checked by computing on the bytes of its sheet: what setup
+-- 01's worked cases P-a to P-l ('Listing program and its sheets') and 02's P5 and P6 as rows of a single list, each checked by computing on the bytes of its sheet: what setup
 -- answers, the precincts, the packets in order, and what steps answer. P-j has 32,767 points to test, so positions are computed by the next hit in play
 -- (theorem 2, InPlay); what the listing program prints for sheet A is computed point by point. Assumes nothing.
 use Prim.Native.Nat.{ℕ, _+_, _-_, _*_}
@@ -57,10 +57,17 @@ tileA changes = (1 ∷ 0 ∷ 0 ∷ 64 ∷ 32 ∷ 2 ∷ 1 ∷ length changes ∷ 
 abbrev pub sheetA : List (List ℕ)
 sheetA = tileA ((5 ∷ 2 ∷ []) ∷ [])
 
--- P-h's: one resolution each, dx 2 and 3, so steps 32 and 48
-abbrev unlike : ℕ → List (List ℕ)
-unlike prg =
-    (1 ∷ 0 ∷ 0 ∷ 64 ∷ 32 ∷ 1 ∷ 2 ∷ 1 ∷ []) ∷ (2 ∷ 2 ∷ 1 ∷ 1 ∷ []) ∷ (3 ∷ 4 ∷ 4 ∷ []) ∷ (2 ∷ 3 ∷ 1 ∷ 1 ∷ []) ∷ (3 ∷ 4 ∷ 4 ∷ []) ∷ (5 ∷ prg ∷ []) ∷ []
+-- P-h's with these progressions: one resolution each, dx 2 and 3, so steps 32 and 48
+abbrev unlike : List (List ℕ) → List (List ℕ)
+unlike changes =
+    (1 ∷ 0 ∷ 0 ∷ 64 ∷ 32 ∷ 1 ∷ 2 ∷ length changes ∷ []) ∷ (2 ∷ 2 ∷ 1 ∷ 1 ∷ []) ∷ (3 ∷ 4 ∷ 4 ∷ []) ∷ (2 ∷ 3 ∷ 1 ∷ 1 ∷ []) ∷ (3 ∷ 4 ∷ 4 ∷ []) ∷ changes
+
+-- a progression of this kind and order over all of it, and one of component 0 alone
+abbrev over : ℕ → ℕ → List ℕ
+over kind prg = kind ∷ prg ∷ 0 ∷ 0 ∷ 1 ∷ 1 ∷ 2 ∷ []
+
+abbrev overFirst : ℕ → ℕ → List ℕ
+overFirst kind prg = kind ∷ prg ∷ 0 ∷ 0 ∷ 1 ∷ 1 ∷ 1 ∷ []
 
 -- P-i's: 17 resolutions, exponents 15
 abbrev deep : ℕ → List (List ℕ)
@@ -99,6 +106,22 @@ eight =
 abbrev layer : ℕ → ℕ → List Position
 layer l x = at l 0 0 0 0 0 ∷ at l 0 0 1 x 0 ∷ at l 1 0 0 0 0 ∷ at l 1 0 1 x 0 ∷ []
 
+-- P-h's four of a component, in orders 0 and 1, and by points, where x is where its second column is met
+abbrev unmet : ℕ → List Position
+unmet c = map (λ k. at 0 0 c k 0 0) (span 0 4)
+
+abbrev inOne : ℕ → ℕ → List Position
+inOne c x = at 0 0 c 0 0 0 ∷ at 0 0 c 1 x 0 ∷ at 0 0 c 2 0 16 ∷ at 0 0 c 3 x 16 ∷ []
+
+-- those of both components, from point to point
+abbrev inTurns : List Position
+inTurns =
+    at 0 0 0 0 0 0 ∷ at 0 0 1 0 0 0 ∷ at 0 0 0 1 32 0 ∷ at 0 0 1 1 48 0 ∷ at 0 0 0 2 0 16 ∷ at 0 0 1 2 0 16 ∷ at 0 0 0 3 32 16 ∷ at 0 0 1 3 48 16 ∷ []
+
+-- P5's luma in order 4
+abbrev lumaAlone : List Position
+lumaAlone = at 0 0 0 0 0 0 ∷ at 0 1 0 0 0 0 ∷ at 0 0 0 1 4 0 ∷ at 0 1 0 1 4 0 ∷ []
+
 -- to unfold this is to unfold all that reads a sheet and lists its positions
 computed : ℕ
 unfolding setupVerdict readVerdict readFrom recordVerdict dueAfter wordAt wordsBytes gather allBelow sumBelow maxBelow minBelow componentRecord progressionAt fieldsOf maxPrec maxRes dxMin dyMin reported needed indexOf entriesBefore rangeOf stepsFit stepsDivide gridAgreed met numberAt tableOf nest axis goUp has unseen across boundOf count hitAt columnOf
@@ -124,6 +147,10 @@ refuses sheet n = record { sheet = sheet; number = refusal n; marks = 0; sizes =
 abbrev withAlpha : ℕ → List ℕ → List Position → List ℕ → Row
 withAlpha n change packets answers = accepts (alpha n change) (4 * n) ((2 ∷ 1 ∷ 2 ∷ 1 ∷ []) ++ replicate (2 * n) 1) packets (answers ∷ [])
 
+-- P-h's with these progressions: counts 2 by 2 for both components, 8 marks
+abbrev withUnlike : List (List ℕ) → List Position → List (List ℕ) → Row
+withUnlike changes = accepts (unlike changes) 8 (replicate 4 2)
+
 -- A with these progressions: counts 2 by 1 for both resolutions, 8 marks
 abbrev withA : List (List ℕ) → List Position → List (List ℕ) → Row
 withA changes = accepts (tileA changes) 8 (2 ∷ 1 ∷ 2 ∷ 1 ∷ [])
@@ -147,10 +174,9 @@ rows =
     ∷ withA ((4 ∷ 2 ∷ 0 ∷ 0 ∷ 2 ∷ 2 ∷ 2 ∷ []) ∷ []) [] ((0 ∷ []) ∷ [])
     ∷ withA ((4 ∷ 2 ∷ 0 ∷ 0 ∷ 2 ∷ 2 ∷ 1 ∷ []) ∷ []) eight []
     -- P-h: order 2 gives -4; orders 0 and 4 pass
-    ∷ refuses (unlike 2) 4
-    ∷ accepts (unlike 0) 8 (replicate 4 2) (map (λ k. at 0 0 0 k 0 0) (span 0 4) ++ map (λ k. at 0 0 1 k 0 0) (span 0 4)) []
-    ∷ accepts (unlike 4) 8 (replicate 4 2)
-    (at 0 0 0 0 0 0 ∷ at 0 0 0 1 32 0 ∷ at 0 0 0 2 0 16 ∷ at 0 0 0 3 32 16 ∷ at 0 0 1 0 0 0 ∷ at 0 0 1 1 48 0 ∷ at 0 0 1 2 0 16 ∷ at 0 0 1 3 48 16 ∷ []) []
+    ∷ refuses (unlike ((5 ∷ 2 ∷ []) ∷ [])) 4
+    ∷ withUnlike ((5 ∷ 0 ∷ []) ∷ []) (unmet 0 ++ unmet 1) []
+    ∷ withUnlike ((5 ∷ 4 ∷ []) ∷ []) (inOne 0 32 ++ inOne 1 48) []
     -- P-i: d = 2 gives -4, d = 1 passes
     ∷ refuses (deep 2) 4
     ∷ accepts (deep 1) 17 (replicate 34 1) (map (λ r. at 0 r 0 0 0 0) (span 0 17)) []
@@ -164,7 +190,7 @@ rows =
     -- 01, 'Easy slips': levels are the component's own; and a resolution is skipped for a component that hasn't got it
     ∷ accepts uneven 8 (2 ∷ 1 ∷ 2 ∷ 1 ∷ 2 ∷ 1 ∷ []) (at 0 0 0 0 0 0 ∷ at 0 0 1 0 0 0 ∷ at 0 0 0 1 16 0 ∷ at 0 0 1 1 16 0 ∷ at 0 1 1 0 0 0 ∷ at 0 1 1 1 16 0 ∷ []) []
     -- 02, P5: order 4 for luma alone never looks at the alpha plane
-    ∷ withAlpha 33 (4 ∷ 4 ∷ 0 ∷ 0 ∷ 1 ∷ 33 ∷ 1 ∷ []) (at 0 0 0 0 0 0 ∷ at 0 1 0 0 0 0 ∷ at 0 0 0 1 4 0 ∷ at 0 1 0 1 4 0 ∷ []) (1 ∷ 1 ∷ 1 ∷ 1 ∷ 0 ∷ [])
+    ∷ withAlpha 33 (4 ∷ 4 ∷ 0 ∷ 0 ∷ 1 ∷ 33 ∷ 1 ∷ []) lumaAlone (1 ∷ 1 ∷ 1 ∷ 1 ∷ 0 ∷ [])
     -- with compno1 reaching it (18 resolutions are enough), with all components, and in order 2: -4
     ∷ refuses (alpha 18 (4 ∷ 4 ∷ 0 ∷ 0 ∷ 1 ∷ 33 ∷ 2 ∷ [])) 4
     ∷ refuses (alpha 18 (5 ∷ 4 ∷ [])) 4
@@ -172,6 +198,20 @@ rows =
     -- compno1 above the components, or a range without components: no positions
     ∷ withAlpha 18 (4 ∷ 4 ∷ 0 ∷ 0 ∷ 1 ∷ 33 ∷ 3 ∷ []) [] (0 ∷ [])
     ∷ withAlpha 18 (4 ∷ 4 ∷ 0 ∷ 1 ∷ 1 ∷ 33 ∷ 1 ∷ []) [] (0 ∷ [])
+    -- 02, P6: kind 6 lists P-h's sheet in orders 2 and 3, from point to point, and in order 4
+    ∷ withUnlike (over 6 2 ∷ []) inTurns ((replicate 8 1 ++ 0 ∷ []) ∷ [])
+    ∷ withUnlike (over 6 3 ∷ []) inTurns []
+    ∷ withUnlike (over 6 4 ∷ []) (inOne 0 32 ++ inOne 1 48) []
+    -- kinds 4 and 6 in one sheet, in any order; of kind 4 the smallest step has to divide
+    ∷ withUnlike (overFirst 4 0 ∷ over 6 2 ∷ []) (unmet 0 ++ inOne 1 48) ((replicate 4 1 ++ 0 ∷ []) ∷ (replicate 4 1 ++ 0 ∷ []) ∷ [])
+    ∷ withUnlike (over 6 3 ∷ overFirst 4 0 ∷ []) inTurns ((replicate 8 1 ++ 0 ∷ []) ∷ (0 ∷ []) ∷ [])
+    ∷ refuses (unlike (over 6 2 ∷ over 4 2 ∷ [])) 4
+    -- a step over 32 bits: -4 in order 3, which asks of every component, and not in order 4 for luma alone
+    ∷ refuses (alpha 18 (6 ∷ 3 ∷ 0 ∷ 0 ∷ 1 ∷ 33 ∷ 1 ∷ [])) 4
+    ∷ withAlpha 18 (6 ∷ 4 ∷ 0 ∷ 0 ∷ 1 ∷ 33 ∷ 1 ∷ []) lumaAlone []
+    -- kind 6 beside kind 5, either way round: -2
+    ∷ refuses (unlike (over 6 2 ∷ (5 ∷ 2 ∷ []) ∷ [])) 2
+    ∷ refuses (unlike ((5 ∷ 2 ∷ []) ∷ over 6 2 ∷ [])) 2
     ∷ []
 
 -- THE TEST
@@ -271,7 +311,7 @@ in-play-hold : allBy (listedBy inPlay) (stepVia inPlay) rows ≡ true
 unfolding computed rows allBy holdsBy inPlay listedBy stepVia positionsBy setupOf sheetSound stateSound isIn componentsSound progressionsSound tableSound entrySound reportsSound same decided behind freeByte markedByte freeAt markAt seek nextInPlay least
 in-play-hold = refl
 
--- THEOREM: P-a to P-l and P5's cases hold
+-- THEOREM: P-a to P-l and the cases of P5 and P6 hold
 pub rows-hold : all rows ≡ true
 rows-hold = by-in-play rows in-play-hold
 

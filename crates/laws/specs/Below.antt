@@ -16,14 +16,14 @@ unfoldable pub sumBelow : (ℕ → ℕ) → ℕ → ℕ
 sumBelow f zero = 0
 sumBelow f (suc n) = sumBelow f n + f n
 
-not-below : {A : Type 0} (i : ℕ) → i < 0 → A
+pub not-below : {A : Type 0} (i : ℕ) → i < 0 → A
 not-below i h = absurd (none i h)
   where
     none : (i : ℕ) → i < 0 → ⊥
     none i h = omega arith
 
 -- a number below n + 1 is n or below it
-last-or : {A : Type 0} {i n : ℕ} → i < suc n → (i ≡ n → A) → (i < n → A) → A
+pub last-or : {A : Type 0} {i n : ℕ} → i < suc n → (i ≡ n → A) → (i < n → A) → A
 last-or h a b = ⊎-elim a b (eq-or-lt-of-le (le-of-suc-le-suc h))
 
 module _ (f : ℕ → Bool) where

@@ -1,4 +1,5 @@
--- Tests that are one; smallest numbers from other starts; the smallest and the largest by what they grow with; multiples by powers of two. Assumes nothing.
+-- Tests that are one; largest numbers up to where they end; smallest numbers from other starts; the smallest and the largest by what they grow with; multiples by powers
+-- of two. Assumes nothing.
 use mathlib.Core.Path.{_≡_, refl, sym, ap, _∙_}
 use mathlib.Core.Bool.{Bool, true, false, _&&_, false≢true}
 use mathlib.Core.Logic.{⊎-elim}
@@ -9,7 +10,7 @@ use lib.Dec.{leb}
 use lib.Pow.{pow-mono, pow-lt, pow-add}
 use borrow.Author.Tests.{le-leb, leb-true}
 use Rattle.laws.specs.Cases.{le-or-lt, and-false}
-use Rattle.laws.specs.Below.{allBelow, all-at, maxBelow, max-at, minBelow, min-at}
+use Rattle.laws.specs.Below.{allBelow, all-at, maxBelow, max-at, max-least, minBelow, min-at}
 use Rattle.laws.specs.Pointwise.{all-true}
 use Rattle.laws.specs.Least.{min-from}
 
@@ -36,6 +37,14 @@ all-up-to f m h n =
     same-tests _ _
     (λ t. all-true f n (λ i l. ⊎-elim (h i) (λ (k : i < m). all-at f (min n m) t i (omega arith)) (le-or-lt m i)))
     (λ t. all-true f (min n m) (λ i l. all-at f n t i (omega arith)))
+
+-- a largest number, where those from m on are 0, is that of those below m
+pub max-up-to : (f : ℕ → ℕ) (m : ℕ) → ((k : ℕ) → m ≤ k → f k ≡ 0) → (n : ℕ) → maxBelow f (min n m) ≡ maxBelow f n
+max-up-to f m h n =
+    let low : maxBelow f (min n m) ≤ maxBelow f n = max-least f (min n m) (maxBelow f n) (λ i l. max-at f n i (omega arith)) in
+    let high : maxBelow f n ≤ maxBelow f (min n m)
+    = max-least f n (maxBelow f (min n m)) (λ i l. ⊎-elim (λ k. omega (arith, h i k)) (λ (k : i < m). max-at f (min n m) i (omega arith)) (le-or-lt m i)) in
+    omega arith
 
 -- the smallest does not depend on where it starts, if that is no smaller than the first
 pub min-restart : (a b : ℕ) (f : ℕ → ℕ) (n : ℕ) → 0 < n → f 0 ≤ a → a ≤ b → minBelow a f n ≡ minBelow b f n

@@ -26,6 +26,7 @@ pub mod NestSkip
 pub mod NestCut
 pub mod Below
 pub mod Least
+pub mod Divisors
 pub mod Extremes
 pub mod Indexing
 pub mod Pointwise

@@ -1,66 +1,67 @@
--- 01's stride on an agreed grid: the smallest step divides the step of every hit, so that it passes over none and lists the positions (Strided). Assumes nothing.
-use mathlib.Core.Path.{_≡_, refl, ap, _∙_}
+-- The stride of a progression whose grid is agreed: 01's smallest step, and for kind 6 the greatest common divisor of the steps (02, P6). Either divides all the
+-- steps, and so lists the positions (AnyStride). Assumes nothing.
+use mathlib.Core.Path.{_≡_, refl}
 use mathlib.Core.List.{[]}
-use mathlib.Core.Bool.{Bool, true, cond}
-use mathlib.Core.Logic.{⊎-elim}
-use Prim.Native.Nat.{ℕ, _+_, _-_, _*_, _%_, _^_, _≤_, _<_}
-use native.Mathlib.Nat.{mul-pos, mul-mod-left, mul-lt-mul-of-pos-left, mul-left-comm}
+use mathlib.Core.Bool.{Bool, true, false, cond, _||_}
+use Prim.Native.Nat.{ℕ, _+_, _*_, _%_, _^_, _≤_, _<_, _∣_}
+use native.Mathlib.Nat.{mul-pos, dvd-trans, pos-of-dvd-of-pos, mod-eq-zero-of-dvd}
 use native.Mathlib.Omega.{arith}
-use lib.Pow.{pow-pos, pow-add, pow-lt}
-use lib.Dec.{ltb}
-use borrow.Author.Tests.{ltb-true, leb-true, eqb-true}
-use Rattle.laws.specs.Cases.{le-or-lt, and-true}
+use lib.Pow.{pow-pos}
+use lib.Dec.{eqb}
+use borrow.Author.Tests.{eqb-true}
+use Rattle.laws.specs.Cases.{and-true, or-true}
 use Rattle.laws.specs.Below.{minBelow, all-at, min-at}
 use Rattle.laws.specs.Least.{min-has, min-below}
+use Rattle.laws.specs.Extremes.{shifted-multiple}
+use Rattle.laws.specs.Divisors.{common-start, common-at}
 use Rattle.laws.specs.Stride.{stride}
 use Rattle.laws.specs.Nest.{nest}
-use Rattle.laws.specs.NestOnce.{Within}
 use Rattle.types.specs.State.{origin}
 use Rattle.packets.specs.Tile.{Sheet, dxOf, dyOf, levelOf, resOf}
 use Rattle.types.specs.Orders.{componentsGood}
 use Rattle.types.specs.declared.order.Order.{Order}
 use Rattle.types.specs.declared.order.Order.the-variants.{Lrcp as lrcp, Rlcp as rlcp, Rpcl as rpcl, Pcrl as pcrl, Cprl as cprl, NoPositions as other}
 use Rattle.types.specs.declared.order.Range.{Range}
-use Rattle.packets.specs.Grid.{stepX, stepY, smallest, smallestOf, stepsFit, stepsDivide, agreed}
+use Rattle.packets.specs.Grid.{stepX, stepY, smallest, smallestOf, common, commonOf, stepsFit, stepsDivide, agreed}
 use Rattle.packets.specs.Positions.{loopsOf, hasPositions, positionsIn}
 use Rattle.packets.specs.Good.{Good}
-use Rattle.packets.specs.Strided.{For, oneResolution, oneComponent, everything, pointsFor, outerLoops, Hit, PassesNoHit, strided, strided-positions, strided-listed}
+use Rattle.packets.specs.Strided.{For, oneResolution, oneComponent, everything, pointsFor, strided, strided-listed}
+use Rattle.packets.specs.AnyStride.{DividesAll, any-stride}
 use Rattle.packets.specs.Inside.{has-good}
-use Rattle.packets.specs.NextHits.{met-has, has-precincts, divisors-pass}
 use Rattle.types.specs.declared.state.State.{State}
 use Rattle.types.specs.declared.cursor.Position.{Position}
 
--- 01'S STRIDE. The smallest step over all components, or for CPRL over the one component
-abbrev pub sourceStep : (ℕ → ℕ → ℕ) → State → For → Position → ℕ
-sourceStep f st oneResolution p = smallest f st
-sourceStep f st oneComponent p = smallestOf f st (p .compno)
-sourceStep f st everything p = smallest f st
+-- THE STRIDES of a progression on one axis, where the loops around rows and columns stand at p. 01: the smallest step over all components, or for CPRL over the
+-- one component
+abbrev pub smallestStep : (ℕ → ℕ → ℕ) → State → For → Position → ℕ
+smallestStep f st oneResolution p = smallest f st
+smallestStep f st oneComponent p = smallestOf f st (p .compno)
+smallestStep f st everything p = smallest f st
 
-abbrev pub sourceX : Sheet → For → Position → ℕ → ℕ
-sourceX s w p = stride (sourceStep (stepX s) (s .st) w p)
+-- 02, P6: the greatest common divisor of the same steps
+abbrev pub commonStep : (ℕ → ℕ → ℕ) → State → For → Position → ℕ
+commonStep f st oneResolution p = common f st
+commonStep f st oneComponent p = commonOf f st (p .compno)
+commonStep f st everything p = common f st
 
-abbrev pub sourceY : Sheet → For → Position → ℕ → ℕ
-sourceY s w p = stride (sourceStep (stepY s) (s .st) w p)
+-- 02, P6: kind 6 strides by the one in place of the other
+abbrev pub strideStep : ℕ → (ℕ → ℕ → ℕ) → State → For → Position → ℕ
+strideStep kind f st w p = cond (eqb kind 6) (commonStep f st w p) (smallestStep f st w p)
 
--- of d·2^i and d·2^j the smaller divides the other
-doubled-divides : (d i j : ℕ) → 1 ≤ d → d * 2 ^ i ≤ d * 2 ^ j → d * 2 ^ j % (d * 2 ^ i) ≡ 0
-doubled-divides d i j p h =
-    ⊎-elim
-    (λ k.
-    let e : j ≡ j - i + i = omega arith in
-    let m : d * 2 ^ j ≡ 2 ^ (j - i) * (d * 2 ^ i)
-    = ap (λ (n : ℕ). d * 2 ^ n) e ∙ ap (λ (n : ℕ). d * n) (pow-add 2 (j - i) i) ∙ mul-left-comm d (2 ^ (j - i)) (2 ^ i) in
-    rw m (mul-mod-left (2 ^ (j - i)) (d * 2 ^ i)))
-    (λ k. omega (arith, mul-lt-mul-of-pos-left {k = d} (pow-lt k) p))
-    (le-or-lt i j)
+-- 01: next x is x + (step - x mod step)
+abbrev pub strideX : Sheet → ℕ → For → Position → ℕ → ℕ
+strideX s kind w p = stride (strideStep kind (stepX s) (s .st) w p)
 
--- so the smallest of some divides each
+abbrev pub strideY : Sheet → ℕ → For → Position → ℕ → ℕ
+strideY s kind w p = stride (strideStep kind (stepY s) (s .st) w p)
+
+-- THE SMALLEST of some multiples of d by powers of two divides each
 doubled-least : (d : ℕ) (e : ℕ → ℕ) (n i : ℕ) → 1 ≤ d → i < n → d * 2 ^ e i % minBelow (d * 2 ^ e 0) (λ r. d * 2 ^ e r) n ≡ 0
 doubled-least d e n i p h =
     let f : ℕ → ℕ = λ r. d * 2 ^ e r in
     let k = min-has (f 0) f (λ m. (k : ℕ) × (m ≡ d * 2 ^ k)) (e 0, refl) n (λ r l. (e r, refl)) in
     let l : d * 2 ^ k .0 ≤ d * 2 ^ e i = rw (k .1) at (min-at (f 0) f n i h) in
-    rw (k .1) (doubled-divides d (k .0) (e i) p l)
+    rw (k .1) (shifted-multiple d (k .0) (e i) p l)
 
 -- 01, 'Agreed grid': the smallest divides all, which is not asked of CPRL
 abbrev pub divided : Sheet → For → Bool
@@ -100,59 +101,74 @@ module _ (s : Sheet) (h : Good s) where
         all = λ e c r i j. all-divide s e c r i j .1;
       }
 
-module _ (s : Sheet) (g : Range) (good : componentsGood (s .st) g ≡ true) (f : ℕ → ℕ → ℕ) (h : Steps s f) where
-  bounds : (g .compno0 < s .st .components) × (g .compno1 ≤ s .st .components)
-  bounds = let a = and-true (ltb (g .compno0) (s .st .components)) _ good in (ltb-true _ _ (a .0), leb-true _ _ (a .1))
-
+module _ (s : Sheet) (f : ℕ → ℕ → ℕ) (h : Steps s f) where
   -- smallest steps are positive
   own-pos : (c : ℕ) → c < s .st .components → 1 ≤ smallestOf f (s .st) c
   own-pos c i = min-below (f c 0) (f c) 0 (resOf (s .st) c) (h .positive c 0 i) (λ r k. h .positive c r i)
 
-  all-pos : 1 ≤ smallest f (s .st)
-  all-pos = min-below (f 0 0) (smallestOf f (s .st)) 0 (s .st .components) (h .positive 0 0 (omega (arith, bounds))) own-pos
+  all-pos : (c : ℕ) → c < s .st .components → 1 ≤ smallest f (s .st)
+  all-pos c i = min-below (f 0 0) (smallestOf f (s .st)) 0 (s .st .components) (h .positive 0 0 (omega arith)) own-pos
 
-  source-pos : (w : For) (p : Position) → Within (outerLoops g w) p → 1 ≤ sourceStep f (s .st) w p
-  source-pos oneResolution p i = all-pos
-  source-pos oneComponent p i = own-pos (p .compno) (omega (arith, bounds))
-  source-pos everything p i = all-pos
+  -- on an agreed grid 01's step is a stride that divides all the steps
+  smallest-divides : (w : For) → divided s w ≡ true → DividesAll s w f (smallestStep f (s .st) w)
+  smallest-divides oneResolution d = record { positive = λ p. all-pos; divides = λ p c r. h .all d c r }
+  smallest-divides oneComponent d =
+      record {
+        positive = λ p c k. rw (← (k .0)) (own-pos c (k .1));
+        divides = λ p c r k. rw (← (k .0)) (h .own c r (k .1));
+      }
+  smallest-divides everything d = record { positive = λ p. all-pos; divides = λ p c r. h .all d c r }
 
-  -- the component of a hit is one of the sheet's, which has the resolution
-  hit-component : (w : For) (p q : Position) → Hit s g w p q → q .compno < s .st .components
-  hit-component oneResolution p q k = omega (arith, bounds, k .spot .comp-to)
-  hit-component oneComponent p q k = omega (arith, bounds, k .spot .comp-to, k .stands)
-  hit-component everything p q k = omega (arith, bounds, k .spot .comp-to)
+  -- THE GREATEST COMMON DIVISOR is one on any grid
+  own-common : (c r : ℕ) → r < resOf (s .st) c → commonOf f (s .st) c ∣ f c r
+  own-common c r k = common-at (f c 0) (f c) (resOf (s .st) c) r k
 
-  hit-resolution : (w : For) (p q : Position) → Hit s g w p q → q .resno < resOf (s .st) (q .compno)
-  hit-resolution w p q k = has-precincts s (q .compno) (q .resno) (met-has s q (k .is-met) .has) .0
+  all-common : (c r : ℕ) → c < s .st .components → r < resOf (s .st) c → common f (s .st) ∣ f c r
+  all-common c r i k = dvd-trans _ (common-at (f 0 0) (commonOf f (s .st)) (s .st .components) c i) (own-common c r k)
 
-  -- 01's step divides that of each hit
-  source-divides : (w : For) → divided s w ≡ true → (p q : Position) → Hit s g w p q → f (q .compno) (q .resno) % sourceStep f (s .st) w p ≡ 0
-  source-divides oneResolution d p q k = h .all d (q .compno) (q .resno) (hit-component oneResolution p q k) (hit-resolution oneResolution p q k)
-  source-divides oneComponent d p q k =
-      let e : p .compno ≡ q .compno = omega (arith, k .spot .comp-from, k .spot .comp-to) in
-      rw e (h .own (q .compno) (q .resno) (hit-component oneComponent p q k) (hit-resolution oneComponent p q k))
-  source-divides everything d p q k = h .all d (q .compno) (q .resno) (hit-component everything p q k) (hit-resolution everything p q k)
+  own-common-pos : (c : ℕ) → c < s .st .components → 1 ≤ commonOf f (s .st) c
+  own-common-pos c i = pos-of-dvd-of-pos (common-start (f c 0) (f c) (resOf (s .st) c)) (h .positive c 0 i)
 
-module _ (s : Sheet) (h : Good s) (g : Range) (good : componentsGood (s .st) g ≡ true) where
-  -- on an agreed grid 01's stride passes over no hit
-  pub source-passes : (w : For) → divided s w ≡ true → PassesNoHit s g (sourceX s w) (sourceY s w) w
-  source-passes w d =
-      divisors-pass s g w (sourceStep (stepX s) (s .st) w) (sourceStep (stepY s) (s .st) w)
-      (λ p i. (source-pos s g good (stepX s) (steps-x s h) w p i, source-pos s g good (stepY s) (steps-y s h) w p i))
-      (λ p q k. (source-divides s g good (stepX s) (steps-x s h) w d p q k, source-divides s g good (stepY s) (steps-y s h) w d p q k))
+  all-common-pos : (c : ℕ) → c < s .st .components → 1 ≤ common f (s .st)
+  all-common-pos c i = pos-of-dvd-of-pos (common-start (f 0 0) (commonOf f (s .st)) (s .st .components)) (h .positive 0 0 (omega arith))
 
-  -- and so lists the positions
-  pub stride-agreed : (o : Order) → agreed s g o ≡ true
-      → nest (strided s g (sourceX s (pointsFor o)) (sourceY s (pointsFor o)) o) origin ≡ nest (loopsOf s g o) origin
+  common-divides : (w : For) → DividesAll s w f (commonStep f (s .st) w)
+  common-divides oneResolution = record { positive = λ p. all-common-pos; divides = λ p c r i k. mod-eq-zero-of-dvd _ (all-common c r i k) }
+  common-divides oneComponent =
+      record {
+        positive = λ p c k. rw (← (k .0)) (own-common-pos c (k .1));
+        divides = λ p c r k l. rw (← (k .0)) (mod-eq-zero-of-dvd _ (own-common c r l));
+      }
+  common-divides everything = record { positive = λ p. all-common-pos; divides = λ p c r i k. mod-eq-zero-of-dvd _ (all-common c r i k) }
+
+  -- so the stride of a progression is, of either kind
+  stride-divides : (kind : ℕ) (w : For) → (eqb kind 6 || divided s w) ≡ true → DividesAll s w f (strideStep kind f (s .st) w)
+  stride-divides kind w e = by (eqb kind 6) e
+    where
+      by : (t : Bool) → (t || divided s w) ≡ true → DividesAll s w f (λ p. cond t (commonStep f (s .st) w p) (smallestStep f (s .st) w p))
+      by true e = common-divides w
+      by false e = smallest-divides w e
+
+module _ (s : Sheet) (h : Good s) (g : Range) (good : componentsGood (s .st) g ≡ true) (kind : ℕ) where
+  agreed-lists : (o : Order) → (eqb kind 6 || divided s (pointsFor o)) ≡ true
+      → nest (strided s g (strideX s kind (pointsFor o)) (strideY s kind (pointsFor o)) o) origin ≡ nest (loopsOf s g o) origin
+  agreed-lists o e =
+      any-stride s g good o (strideStep kind (stepX s) (s .st) (pointsFor o)) (strideStep kind (stepY s) (s .st) (pointsFor o))
+      (stride-divides s (stepX s) (steps-x s h) kind (pointsFor o) e)
+      (stride-divides s (stepY s) (steps-y s h) kind (pointsFor o) e)
+
+  -- and lists what the loops over every point list
+  pub stride-agreed : (o : Order) → agreed s kind g o ≡ true
+      → nest (strided s g (strideX s kind (pointsFor o)) (strideY s kind (pointsFor o)) o) origin ≡ nest (loopsOf s g o) origin
   stride-agreed lrcp e = refl
   stride-agreed rlcp e = refl
-  stride-agreed rpcl e = strided-positions s g _ _ rpcl (source-passes oneResolution (and-true (stepsFit s 0 (s .st .components)) (stepsDivide s) e .1))
-  stride-agreed pcrl e = strided-positions s g _ _ pcrl (source-passes everything (and-true (stepsFit s 0 (s .st .components)) (stepsDivide s) e .1))
-  stride-agreed cprl e = strided-positions s g _ _ cprl (source-passes oneComponent refl)
+  stride-agreed rpcl e = agreed-lists rpcl (and-true (stepsFit s 0 (s .st .components)) (eqb kind 6 || stepsDivide s) e .1)
+  stride-agreed pcrl e = agreed-lists pcrl (and-true (stepsFit s 0 (s .st .components)) (eqb kind 6 || stepsDivide s) e .1)
+  stride-agreed cprl e = agreed-lists cprl (or-true (eqb kind 6))
   stride-agreed other e = refl
 
 -- so the positions of any progression, if it has any
-pub stride-listed : (s : Sheet) → Good s → (g : Range) (o : Order) → agreed s g o ≡ true
-    → cond (hasPositions s g o) (nest (strided s g (sourceX s (pointsFor o)) (sourceY s (pointsFor o)) o) origin) [] ≡ positionsIn s g o
-stride-listed s h g o e =
-    strided-listed s g (sourceX s (pointsFor o)) (sourceY s (pointsFor o)) o (λ k. stride-agreed s h g (has-good s g o k) o e)
+pub stride-listed : (s : Sheet) → Good s → (kind : ℕ) (g : Range) (o : Order) → agreed s kind g o ≡ true
+    → cond (hasPositions s g o) (nest (strided s g (strideX s kind (pointsFor o)) (strideY s kind (pointsFor o)) o) origin) [] ≡ positionsIn s g o
+stride-listed s h kind g o e =
+    strided-listed s g (strideX s kind (pointsFor o)) (strideY s kind (pointsFor o)) o (λ k. stride-agreed s h g (has-good s g o k) kind o e)

@@ -18,7 +18,7 @@ use Rattle.types.specs.declared.order.Order.the-variants.{Lrcp as lrcp, Rlcp as
 use Rattle.types.specs.declared.order.Range.{Range}
 use Rattle.types.specs.declared.state.State.{State}
 use Rattle.types.specs.declared.state.Progression.{Progression}
-use Rattle.packets.specs.Grid.{everywhere, stepX, stepY, smallest, stepsFit, stepsDivide, agreed, changeOf, gridAgreed}
+use Rattle.packets.specs.Grid.{everywhere, stepX, stepY, smallest, stepsFit, stepsDivide, agreed, agreedFor, changeOf, gridAgreed}
 
 -- two sheets with the same tile and components, whose resolutions see the same axes
 pub record Alike (s t : Sheet) : Type 0 where
@@ -118,20 +118,20 @@ module _ (s t : Sheet) (a : Alike s t) where
         (λ c r. eqb (stepX t c r % smallest (stepX t) (t .st)) 0 && eqb (stepY t c r % smallest (stepY t) (t .st)) 0)
         (λ c r h k. λ i. eqb (step (a .same-x c r h k i) % x i) 0 && eqb (step (a .same-y c r h k i) % y i) 0)
 
-    all-fit-same : (stepsFit s 0 (s .st .components) && stepsDivide s) ≡ (stepsFit t 0 (t .st .components) && stepsDivide t)
-    all-fit-same =
+    all-fit-same : (kind : ℕ) → (stepsFit s 0 (s .st .components) && (eqb kind 6 || stepsDivide s)) ≡ (stepsFit t 0 (t .st .components) && (eqb kind 6 || stepsDivide t))
+    all-fit-same kind =
         let fit = steps-fit-same 0 (s .st .components) (omega arith) ∙ ap (stepsFit t 0) (a .components) in
-        λ i. fit i && steps-divide-same i
+        λ i. fit i && (eqb kind 6 || steps-divide-same i)
 
     -- whatever a range says beside its components
-    agreed-same : (g h : Range) → g .compno0 ≡ h .compno0 → g .compno1 ≡ h .compno1 → (o : Order) → agreed s g o ≡ agreed t h o
-    agreed-same g h e f lrcp = refl
-    agreed-same g h e f rlcp = refl
-    agreed-same g h e f rpcl = all-fit-same
-    agreed-same g h e f pcrl = all-fit-same
-    agreed-same g h e f cprl =
+    agreed-same : (kind : ℕ) (g h : Range) → g .compno0 ≡ h .compno0 → g .compno1 ≡ h .compno1 → (o : Order) → agreed s kind g o ≡ agreed t kind h o
+    agreed-same kind g h e f lrcp = refl
+    agreed-same kind g h e f rlcp = refl
+    agreed-same kind g h e f rpcl = all-fit-same kind
+    agreed-same kind g h e f pcrl = all-fit-same kind
+    agreed-same kind g h e f cprl =
         range-fit-same g ∙ (λ i. not (ltb (e i) (t .st .components) && leb (f i) (t .st .components)) || stepsFit t (e i) (f i))
-    agreed-same g h e f other = refl
+    agreed-same kind g h e f other = refl
 
     pub grid-same : s .st .changes ≡ t .st .changes → s .st .progressions ≡ t .st .progressions → gridAgreed s ≡ gridAgreed t
     unfolding gridAgreed
@@ -139,6 +139,6 @@ module _ (s t : Sheet) (a : Alike s t) where
         all-same _ _ (s .st .progressions)
         (λ k h.
         let q : Progression = changeOf (t .st) k in
-        ap (λ l. agreed s (rangeOf (s .st) (getD l k noProgression)) (orderOf (getD l k noProgression .prg))) e
-        ∙ agreed-same (rangeOf (s .st) q) (rangeOf (t .st) q) (range-from (s .st) (t .st) q) (range-to (s .st) (t .st) q (a .components)) (orderOf (q .prg)))
-        ∙ ap (allBelow (λ k. agreed t (rangeOf (t .st) (changeOf (t .st) k)) (orderOf (changeOf (t .st) k .prg)))) f
+        ap (λ l. agreedFor s (getD l k noProgression)) e
+        ∙ agreed-same (q .kind) (rangeOf (s .st) q) (rangeOf (t .st) q) (range-from (s .st) (t .st) q) (range-to (s .st) (t .st) q (a .components)) (orderOf (q .prg)))
+        ∙ ap (allBelow (λ k. agreedFor t (changeOf (t .st) k))) f

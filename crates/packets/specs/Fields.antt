@@ -10,7 +10,7 @@ use Rattle.laws.specs.Cases.{and-true, and-both}
 use Rattle.laws.specs.Below.{all-at}
 use Rattle.laws.specs.Pointwise.{all-true, filled-at, filled-beyond}
 use Rattle.types.specs.State.{noProgression}
-use Rattle.types.specs.Ranges.{componentRange, exponentRange, progressionRange}
+use Rattle.types.specs.Ranges.{componentRange, exponentRange, isVolume, progressionRange}
 use Rattle.packets.specs.Sheet.{wd, judged, unnamed, componentRecord, resolutionRecord, progressionRecord, progressionAt, fieldsOf, volumeVerdict, wholeTileVerdict}
 use Rattle.packets.specs.Tile.{dxOf, dyOf, resOf}
 use Rattle.packets.specs.Grid.{changeOf}
@@ -83,7 +83,7 @@ module _ (b : List ℕ) where
         (all-true _ (wd b 0 6) component-range)
         (all-true _ (16 - wd b 0 6) (λ c h. rw (blank-dx c, blank-dy c, blank-res c) refl))
 
-    -- a progression's record is of kind 4 and in range, or of kind 5, alone, with nothing but its order
+    -- a progression's record is of kind 4 or 6 and in range, or of kind 5, alone, with nothing but its order
     progression-good : (k : ℕ) → k < wd b 0 7 → progressionGood (fieldsOf b) (progressionAt b (progressionRecord b k)) ≡ true
     unfolding fieldsOf progressionAt
     progression-good k h = by (eqb (wd b i 0) 5) refl (r .progression k h)
@@ -95,7 +95,7 @@ module _ (b : List ℕ) where
         alone = eqb (wd b i 0) 5 && (eqb (wd b 0 7) 1 && (eqb (wd b i 2) 0 && (eqb (wd b i 3) 0 && (eqb (wd b i 4) 0 && (eqb (wd b i 5) 0 && eqb (wd b i 6) 0)))))
 
         ranged : Bool
-        ranged = eqb (wd b i 0) 4 && progressionRange (wd b i 2) (wd b i 4) (wd b i 5)
+        ranged = isVolume (wd b i 0) && progressionRange (wd b i 2) (wd b i 4) (wd b i 5)
 
         or-true : (x y : Bool) → (x ≡ true) ⊎ (y ≡ true) → (x || y) ≡ true
         or-true true y e = refl
@@ -114,8 +114,8 @@ module _ (b : List ℕ) where
             (and-both (both .1)
             (and-both (none 0 (omega arith)) (and-both (none 1 (omega arith)) (and-both (none 2 (omega arith)) (and-both (none 3 (omega arith)) (none 4 (omega arith)))))))))
         by false t e =
-            let w = judged-zero (eqb (wd b i 0) 4 && unnamed b i 7) (progressionRange (wd b i 2) (wd b i 4) (wd b i 5)) e in
-            or-true ranged alone (inl (and-both (and-true (eqb (wd b i 0) 4) (unnamed b i 7) (w .0) .0) (w .1)))
+            let w = judged-zero (isVolume (wd b i 0) && unnamed b i 7) (progressionRange (wd b i 2) (wd b i 4) (wd b i 5)) e in
+            or-true ranged alone (inl (and-both (and-true (isVolume (wd b i 0)) (unnamed b i 7) (w .0) .0) (w .1)))
 
     pub progressions-sound : progressionsSound (fieldsOf b) ≡ true
     unfolding progressionsSound fieldsOf

@@ -1,9 +1,10 @@
--- The agreed grid (01, 'Agreed grid', as 02, P5 has it; refusal -4).
+-- The agreed grid (01, 'Agreed grid', as 02, P5 and P6 have it; refusal -4), and the strides of a progression.
 use Prim.Native.Nat.{ℕ, _+_, _-_, _%_}
 use mathlib.Core.Bool.{Bool, true, _&&_, _||_, not}
 use lib.ListN.{getD}
 use lib.Dec.{leb, eqb}
 use Rattle.laws.specs.Below.{allBelow, minBelow}
+use Rattle.laws.specs.Divisors.{gcdBelow}
 use Rattle.geometry.specs.Line.{step}
 use Rattle.types.specs.State.{noProgression}
 use Rattle.packets.specs.Tile.{Sheet, lineX, lineY, resOf}
@@ -36,6 +37,13 @@ smallestOf f st c = minBelow (f c 0) (f c) (resOf st c)
 abbrev pub smallest : (ℕ → ℕ → ℕ) → State → ℕ
 smallest f st = minBelow (f 0 0) (smallestOf f st) (st .components)
 
+-- the greatest common divisor of one component's, and of all: 02, P6, the stride of kind 6, in place of the smallest
+abbrev pub commonOf : (ℕ → ℕ → ℕ) → State → ℕ → ℕ
+commonOf f st c = gcdBelow (f c 0) (f c) (resOf st c)
+
+abbrev pub common : (ℕ → ℕ → ℕ) → State → ℕ
+common f st = gcdBelow (f 0 0) (commonOf f st) (st .components)
+
 -- 01: every step is at most 4,294,967,295; here of the components from c0 up to c1
 unfoldable pub stepsFit : Sheet → ℕ → ℕ → Bool
 stepsFit s c0 c1 = between (s .st) c0 c1 (λ c r. leb (stepX s c r) 4294967295 && leb (stepY s c r) 4294967295)
@@ -46,14 +54,17 @@ stepsDivide s =
     everywhere (s .st) (λ c r. eqb (stepX s c r % smallest (stepX s) (s .st)) 0 && eqb (stepY s c r % smallest (stepY s) (s .st)) 0)
 
 -- 01: orders 2 and 3 ask it of every component. 02, P5: order 4 asks it of those from compno0 up to compno1, and of none if the progression has no positions
--- for its component range. 01: other orders are not tested
-abbrev pub agreed : Sheet → Range → Order → Bool
-agreed s g lrcp = true
-agreed s g rlcp = true
-agreed s g rpcl = stepsFit s 0 (s .st .components) && stepsDivide s
-agreed s g pcrl = stepsFit s 0 (s .st .components) && stepsDivide s
-agreed s g cprl = not (componentsGood (s .st) g) || stepsFit s (g .compno0) (g .compno1)
-agreed s g other = true
+-- for its component range. P6: of kind 6 it is not asked that the smallest divides. 01: other orders are not tested
+abbrev pub agreed : Sheet → ℕ → Range → Order → Bool
+agreed s kind g lrcp = true
+agreed s kind g rlcp = true
+agreed s kind g rpcl = stepsFit s 0 (s .st .components) && (eqb kind 6 || stepsDivide s)
+agreed s kind g pcrl = stepsFit s 0 (s .st .components) && (eqb kind 6 || stepsDivide s)
+agreed s kind g cprl = not (componentsGood (s .st) g) || stepsFit s (g .compno0) (g .compno1)
+agreed s kind g other = true
+
+abbrev pub agreedFor : Sheet → Progression → Bool
+agreedFor s q = agreed s (q .kind) (rangeOf (s .st) q) (orderOf (q .prg))
 
 -- progression k
 abbrev pub changeOf : State → ℕ → Progression
@@ -61,4 +72,4 @@ changeOf st k = getD (st .changes) k noProgression
 
 -- the grid is agreed for every progression
 unfoldable pub gridAgreed : Sheet → Bool
-gridAgreed s = allBelow (λ k. agreed s (rangeOf (s .st) (changeOf (s .st) k)) (orderOf (changeOf (s .st) k .prg))) (s .st .progressions)
+gridAgreed s = allBelow (λ k. agreedFor s (changeOf (s .st) k)) (s .st .progressions)

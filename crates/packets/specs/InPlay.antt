@@ -1,6 +1,6 @@
 -- What is in play: the next row or column is the least next hit of the components and resolutions that can be met from here on. On any grid, agreed or not,
 -- this passes over no hit, and so lists the positions (Strided). Assumes nothing.
-use mathlib.Core.Path.{_≡_, refl}
+use mathlib.Core.Path.{_≡_, refl, sym, _∙_}
 use mathlib.Core.List.{[]}
 use mathlib.Core.Bool.{Bool, true, false, cond, _&&_}
 use Prim.Native.Nat.{ℕ, _+_, _≤_, _<_, max}
@@ -18,8 +18,11 @@ use Rattle.types.specs.State.{origin}
 use Rattle.packets.specs.Tile.{Sheet, lineY, precincts}
 use Rattle.types.specs.declared.order.Order.{Order}
 use Rattle.types.specs.declared.order.Range.{Range}
-use Rattle.packets.specs.Grid.{stepX, stepY}
+use Rattle.types.specs.Orders.{componentsGood}
+use Rattle.packets.specs.Grid.{stepX, stepY, agreed}
 use Rattle.packets.specs.Positions.{loopsOf, hasPositions, positionsIn}
+use Rattle.packets.specs.Good.{Good}
+use Rattle.packets.specs.AgreedStride.{strideX, strideY, stride-agreed}
 use Rattle.packets.specs.Strided.{For, pointsFor, rangeAt, PassesNoHit, strided, strided-positions, strided-listed}
 use Rattle.packets.specs.NextHits.{met-has, has-precincts, row-by-steps, column-by-steps}
 use Rattle.types.specs.declared.cursor.Position.{Position}
@@ -120,3 +123,9 @@ in-play-lists s g o = strided-positions s g (nextX s g (pointsFor o)) (nextY s g
 pub in-play-listed : (s : Sheet) (g : Range) (o : Order)
     → cond (hasPositions s g o) (nest (strided s g (nextX s g (pointsFor o)) (nextY s g (pointsFor o)) o) origin) [] ≡ positionsIn s g o
 in-play-listed s g o = strided-listed s g (nextX s g (pointsFor o)) (nextY s g (pointsFor o)) o (λ k. in-play-lists s g o)
+
+-- on an agreed grid, what the progression's own stride lists, of either kind: 01's smallest step, or the greatest common divisor of the steps
+pub in-play-strides : (s : Sheet) → Good s → (g : Range) → componentsGood (s .st) g ≡ true → (kind : ℕ) (o : Order) → agreed s kind g o ≡ true
+    → nest (strided s g (nextX s g (pointsFor o)) (nextY s g (pointsFor o)) o) origin
+    ≡ nest (strided s g (strideX s kind (pointsFor o)) (strideY s kind (pointsFor o)) o) origin
+in-play-strides s h g good kind o e = in-play-lists s g o ∙ sym (stride-agreed s h g good kind o e)

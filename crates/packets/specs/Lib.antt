@@ -20,6 +20,7 @@ pub mod Counts
 pub mod Strided
 pub mod Skips
 pub mod NextHits
+pub mod AnyStride
 pub mod AgreedStride
 pub mod InPlay
 pub mod Met

@@ -18,7 +18,7 @@ use Rattle.packets.specs.Tile.{Sheet, dxOf, dyOf, resOf, width, height, 
 use Rattle.types.specs.Orders.{orderOf, rangeOf, componentsGood}
 use Rattle.types.specs.declared.order.Order.{Order}
 use Rattle.types.specs.declared.order.Order.the-variants.{Lrcp as lrcp, Rlcp as rlcp, Rpcl as rpcl, Pcrl as pcrl, Cprl as cprl, NoPositions as other}
-use Rattle.packets.specs.Grid.{everywhere, between, stepX, stepY, smallest, stepsFit, stepsDivide, agreed, changeOf, gridAgreed}
+use Rattle.packets.specs.Grid.{everywhere, between, stepX, stepY, smallest, stepsFit, stepsDivide, agreed, agreedFor, changeOf, gridAgreed}
 use Rattle.packets.specs.Table.{entryWord, sheetAt}
 use Rattle.types.specs.Signed.{isZero}
 use Rattle.packets.specs.Sound.{tileGood, componentsSound, noRange, progressionGood, progressionsSound, entrySound, tableSound, reportsSound, sheetSound, stateSound, placeSound, positionsFor, cursorSound, sound}
@@ -55,9 +55,9 @@ pub record NoComponent (st : State) (c : ℕ) : Type 0 where
   pub dy : dyOf st c ≡ 0
   pub resolutions : resOf st c ≡ 0
 
--- a progression of kind 4, whose prg and components may be anything
+-- a progression of kind 4 or 6, whose prg and components may be anything
 pub record Volume (q : Progression) : Type 0 where
-  pub kind : q .kind ≡ 4
+  pub kind : (q .kind ≡ 4) ⊎ (q .kind ≡ 6)
   pub resno0 : q .resno0 ≤ 32
   pub layno1 : q .layno1 ≤ 65535
   pub resno1 : q .resno1 ≤ 33
@@ -103,14 +103,17 @@ StepsDivide s = Everywhere (s .st) (λ c r. (stepX s c r % smallest (stepX s) (s
 abbrev pub ComponentsIn : State → Range → Type 0
 ComponentsIn st g = (g .compno0 < st .components) × (g .compno1 ≤ st .components)
 
--- by the order: 4 asks of its own components, where it has such; others than 2 to 4 are not tested
-abbrev pub AgreedFor : Sheet → Range → Order → Type 0
-AgreedFor s g lrcp = Unit
-AgreedFor s g rlcp = Unit
-AgreedFor s g rpcl = StepsFit s 0 (s .st .components) × StepsDivide s
-AgreedFor s g pcrl = StepsFit s 0 (s .st .components) × StepsDivide s
-AgreedFor s g cprl = ComponentsIn (s .st) g → StepsFit s (g .compno0) (g .compno1)
-AgreedFor s g other = Unit
+-- by the order: 4 asks of its own components, where it has such; others than 2 to 4 are not tested; kind 6 does not ask that the smallest divides
+abbrev pub Agreed : Sheet → ℕ → Range → Order → Type 0
+Agreed s kind g lrcp = Unit
+Agreed s kind g rlcp = Unit
+Agreed s kind g rpcl = StepsFit s 0 (s .st .components) × ((kind ≡ 6) ⊎ StepsDivide s)
+Agreed s kind g pcrl = StepsFit s 0 (s .st .components) × ((kind ≡ 6) ⊎ StepsDivide s)
+Agreed s kind g cprl = ComponentsIn (s .st) g → StepsFit s (g .compno0) (g .compno1)
+Agreed s kind g other = Unit
+
+abbrev pub AgreedFor : Sheet → Progression → Type 0
+AgreedFor s q = Agreed s (q .kind) (rangeOf (s .st) q) (orderOf (q .prg))
 
 -- A SOUND STATE, with its table and marks
 pub record Sound (st : State) (table marks : List ℕ) : Type 0 where
@@ -125,7 +128,7 @@ pub record Sound (st : State) (table marks : List ℕ) : Type 0 where
   pub deepest : st .reports .«max_res» ≡ maxRes st
   pub least-x : st .reports .«dx_min» ≡ dxMin (sheetAt st table)
   pub least-y : st .reports .«dy_min» ≡ dyMin (sheetAt st table)
-  pub grid : (k : ℕ) → k < st .progressions → AgreedFor (sheetAt st table) (rangeOf st (changeOf st k)) (orderOf (changeOf st k .prg))
+  pub grid : (k : ℕ) → k < st .progressions → AgreedFor (sheetAt st table) (changeOf st k)
   pub few : needed st ≤ 65536
   pub marks-long : needed st ≤ length marks
 
@@ -189,7 +192,7 @@ components-means st = and-means (all-means _ (st .components) (component-means s
 progression-means : (st : State) (q : Progression) → Means (progressionGood st q) (Volume q ⊎ WholeTile st q)
 progression-means st q =
     or-means
-    (means-by (and-means (eqb-means (q .kind) 4) (and-means (leb-means (q .resno0) 32) (and-means (leb-means (q .layno1) 65535) (leb-means (q .resno1) 33)))) (λ w. search depth 12) (λ w. search depth 12))
+    (means-by (and-means (or-means (eqb-means (q .kind) 4) (eqb-means (q .kind) 6)) (and-means (leb-means (q .resno0) 32) (and-means (leb-means (q .layno1) 65535) (leb-means (q .resno1) 33)))) (λ w. search depth 12) (λ w. search depth 12))
     (means-by (and-means (eqb-means (q .kind) 5) (and-means (eqb-means (st .progressions) 1) (noRange-means q))) (λ w. search depth 12) (λ w. search depth 12))
 
 progressions-means : (st : State)
@@ -225,19 +228,21 @@ divide-means s =
 pub components-in-means : (st : State) (g : Range) → Means (componentsGood st g) (ComponentsIn st g)
 components-in-means st g = and-means (ltb-means (g .compno0) (st .components)) (leb-means (g .compno1) (st .components))
 
-pub agreed-means : (s : Sheet) (g : Range) (o : Order) → Means (agreed s g o) (AgreedFor s g o)
-agreed-means s g lrcp = (λ e. tt, λ w. refl)
-agreed-means s g rlcp = (λ e. tt, λ w. refl)
-agreed-means s g rpcl = and-means (fit-means s 0 (s .st .components)) (divide-means s)
-agreed-means s g pcrl = and-means (fit-means s 0 (s .st .components)) (divide-means s)
-agreed-means s g cprl = if-means (components-in-means (s .st) g) (fit-means s (g .compno0) (g .compno1))
-agreed-means s g other = (λ e. tt, λ w. refl)
+pub agreed-means : (s : Sheet) (kind : ℕ) (g : Range) (o : Order) → Means (agreed s kind g o) (Agreed s kind g o)
+agreed-means s kind g lrcp = (λ e. tt, λ w. refl)
+agreed-means s kind g rlcp = (λ e. tt, λ w. refl)
+agreed-means s kind g rpcl = and-means (fit-means s 0 (s .st .components)) (or-means (eqb-means kind 6) (divide-means s))
+agreed-means s kind g pcrl = and-means (fit-means s 0 (s .st .components)) (or-means (eqb-means kind 6) (divide-means s))
+agreed-means s kind g cprl = if-means (components-in-means (s .st) g) (fit-means s (g .compno0) (g .compno1))
+agreed-means s kind g other = (λ e. tt, λ w. refl)
 
 -- the agreed grid
 pub grid-means : (s : Sheet)
-    → Means (gridAgreed s) ((k : ℕ) → k < s .st .progressions → AgreedFor s (rangeOf (s .st) (changeOf (s .st) k)) (orderOf (changeOf (s .st) k .prg)))
+    → Means (gridAgreed s) ((k : ℕ) → k < s .st .progressions → AgreedFor s (changeOf (s .st) k))
 unfolding gridAgreed
-grid-means s = all-means _ (s .st .progressions) (λ k. agreed-means s (rangeOf (s .st) (changeOf (s .st) k)) (orderOf (changeOf (s .st) k .prg)))
+grid-means s =
+    all-means _ (s .st .progressions)
+    (λ k. let q : Progression = changeOf (s .st) k in agreed-means s (q .kind) (rangeOf (s .st) q) (orderOf (q .prg)))
 
 reports-means : (s : Sheet)
     → Means (reportsSound s) ((s .st .reports .«max_prec» ≡ maxPrec s) × ((s .st .reports .«max_res» ≡ maxRes (s .st)) × ((s .st .reports .«dx_min» ≡ dxMin s) × (s .st .reports .«dy_min» ≡ dyMin s))))

@@ -11,6 +11,8 @@ use lib.IntN.{ℤ, pos, negsuc}
 use borrow.Author.Tests.{lt-ltb, le-ltb, le-leb}
 use Rattle.laws.specs.Below.{allBelow}
 use Rattle.laws.specs.Pointwise.{all-same}
+use Rattle.laws.specs.Means.{eqb-means, or-means}
+use Rattle.types.specs.Ranges.{not-whole}
 use Rattle.packets.specs.Sheet.{wd, unnamed, tileVerdict, componentVerdict, resolutionVerdict, progressionVerdict, signedOf, progressionAt}
 use Rattle.packets.specs.Tile.{Sheet}
 use Rattle.packets.specs.Meaning.{TileIn, ComponentIn, Volume, WholeTile, tile-means, component-means}
@@ -58,7 +60,8 @@ module _ (b : List ℕ) (i : ℕ) where
   pub progression-fine : (st : State) (q : Progression) → Row b i (progressionRow q) → Volume q ⊎ WholeTile st q → progressionVerdict b (st .progressions) i ≡ 0
   unfolding allBelow
   progression-fine st q row (inl v) =
-      rw (none (progressionRow q) row 7 refl, row 0 (omega arith), row 2 (omega arith), row 4 (omega arith), row 5 (omega arith), v .kind, le-leb _ _ (v .resno0), le-leb _ _ (v .layno1), le-leb _ _ (v .resno1))
+      let volume = or-means (eqb-means (q .kind) 4) (eqb-means (q .kind) 6) .1 (v .kind) in
+      rw (none (progressionRow q) row 7 refl, row 0 (omega arith), row 2 (omega arith), row 4 (omega arith), row 5 (omega arith), not-whole (q .kind) volume, volume, le-leb _ _ (v .resno0), le-leb _ _ (v .layno1), le-leb _ _ (v .resno1))
   progression-fine st q row (inr v) =
       let n = v .blank in
       let blanks : allBelow (λ j. eqb (getD (progressionRow q) (2 + j) 0) 0) 6 ≡ true = rw (n .resno0, n .compno0, n .layno1, n .resno1, n .compno1) in

@@ -8,7 +8,7 @@ use lib.IntN.{ℤ, pos, negsuc}
 use Rattle.laws.specs.Axis.{span}
 use Rattle.laws.specs.Below.{allBelow}
 use Rattle.words.specs.Words.{wordAt}
-use Rattle.types.specs.Ranges.{tileRange, componentRange, exponentRange, progressionRange}
+use Rattle.types.specs.Ranges.{tileRange, componentRange, exponentRange, isVolume, progressionRange}
 use Rattle.types.specs.State.{noProgression, noReports}
 use Rattle.types.specs.declared.state.Progression.{Progression}
 use Rattle.types.specs.declared.state.State.{State}
@@ -25,7 +25,7 @@ unnamed s i k = allBelow (λ j. eqb (wd s i (k + j)) 0) (8 - k)
 abbrev pub judged : Bool → Bool → ℕ
 judged shape range = cond shape (cond range 0 3) 2
 
--- 01, the table of kinds: record i as a tile, a component, a resolution, and a progression of kind 4 or of kind 5, which wants a progression count of 1
+-- 01, the table of kinds: record i as a tile, a component, a resolution, and a progression of kind 4 or 6 (02, P6), or of kind 5, which wants a progression count of 1
 abbrev pub tileVerdict : List ℕ → ℕ → ℕ
 tileVerdict s i = judged (eqb (wd s i 0) 1) (tileRange (wd s i 1) (wd s i 2) (wd s i 3) (wd s i 4) (wd s i 5) (wd s i 6) (wd s i 7))
 
@@ -36,7 +36,7 @@ abbrev pub resolutionVerdict : List ℕ → ℕ → ℕ
 resolutionVerdict s i = judged (eqb (wd s i 0) 3 && unnamed s i 3) (exponentRange (wd s i 1) (wd s i 2))
 
 abbrev pub volumeVerdict : List ℕ → ℕ → ℕ
-volumeVerdict s i = judged (eqb (wd s i 0) 4 && unnamed s i 7) (progressionRange (wd s i 2) (wd s i 4) (wd s i 5))
+volumeVerdict s i = judged (isVolume (wd s i 0) && unnamed s i 7) (progressionRange (wd s i 2) (wd s i 4) (wd s i 5))
 
 abbrev pub wholeTileVerdict : List ℕ → ℕ → ℕ → ℕ
 wholeTileVerdict s count i = judged (eqb (wd s i 0) 5 && (unnamed s i 2 && eqb count 1)) true

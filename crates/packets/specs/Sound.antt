@@ -6,7 +6,7 @@ use lib.ListN.{length}
 use lib.Dec.{ltb, leb, eqb}
 use Rattle.laws.specs.Below.{allBelow}
 use Rattle.types.specs.Signed.{isZero}
-use Rattle.types.specs.Ranges.{tileRange, componentRange, exponentRange, progressionRange}
+use Rattle.types.specs.Ranges.{tileRange, componentRange, exponentRange, isVolume, progressionRange}
 use Rattle.packets.specs.Tile.{Sheet, dxOf, dyOf, resOf, width, height, maxPrec, maxRes, dxMin, dyMin, needed, tableBytes}
 use Rattle.packets.specs.Grid.{everywhere, changeOf, gridAgreed}
 use Rattle.packets.specs.Positions.{positionsOf}
@@ -33,10 +33,10 @@ componentsSound st =
 abbrev pub noRange : Progression → Bool
 noRange q = eqb (q .resno0) 0 && (eqb (q .compno0) 0 && (eqb (q .layno1) 0 && (eqb (q .resno1) 0 && eqb (q .compno1) 0)))
 
--- the progressions': all of kind 4, or exactly one of kind 5; and nothing beyond the last
+-- the progressions': all of kinds 4 and 6 (02, P6), or exactly one of kind 5; and nothing beyond the last
 abbrev pub progressionGood : State → Progression → Bool
 progressionGood st q =
-    (eqb (q .kind) 4 && progressionRange (q .resno0) (q .layno1) (q .resno1)) || (eqb (q .kind) 5 && (eqb (st .progressions) 1 && noRange q))
+    (isVolume (q .kind) && progressionRange (q .resno0) (q .layno1) (q .resno1)) || (eqb (q .kind) 5 && (eqb (st .progressions) 1 && noRange q))
 
 unfoldable pub progressionsSound : State → Bool
 progressionsSound st =

@@ -8,7 +8,7 @@ use lib.ListN.{length}
 use borrow.Author.Tests.{lt-ltb, le-leb, eq-eqb}
 use lib.Dec.{ltb, eqb}
 use Rattle.laws.specs.Cases.{split}
-use Rattle.types.specs.Ranges.{tileRange, componentRange, exponentRange, progressionRange}
+use Rattle.types.specs.Ranges.{tileRange, componentRange, exponentRange, isVolume, progressionRange}
 use Rattle.packets.specs.Sheet.{wd, unnamed, judged, tileVerdict, componentVerdict, resolutionVerdict, volumeVerdict, wholeTileVerdict, progressionVerdict, Due, due, recordVerdict, dueAfter, complete, readFrom, lengthGood, readVerdict}
 
 module _ (s : List ℕ) (count n i : ℕ) (d : Due) where
@@ -31,11 +31,11 @@ module _ (s : List ℕ) (count n i : ℕ) (d : Due) where
 
 -- a progression's verdict is by its kind
 module _ (s : List ℕ) (count i : ℕ) where
-  pub of-kind-5 : eqb (wd s i 0) 5 ≡ true → progressionVerdict s count i ≡ wholeTileVerdict s count i
-  of-kind-5 e = rw e
+  pub of-whole-tile : eqb (wd s i 0) 5 ≡ true → progressionVerdict s count i ≡ wholeTileVerdict s count i
+  of-whole-tile e = rw e
 
-  pub of-kind-4 : eqb (wd s i 0) 5 ≡ false → progressionVerdict s count i ≡ volumeVerdict s i
-  of-kind-4 e = rw e
+  pub of-volume : eqb (wd s i 0) 5 ≡ false → progressionVerdict s count i ≡ volumeVerdict s i
+  of-volume e = rw e
 
 -- the whole sheet: its length, then the tile's record, then the records after it
 module _ (s : List ℕ) where
@@ -74,8 +74,8 @@ module _ (s : List ℕ) where
   progression-small : (count i : ℕ) → progressionVerdict s count i ≤ 3
   progression-small count i =
       split (eqb (wd s i 0) 5)
-      (λ t. rw (of-kind-5 s count i t) (judged-small (eqb (wd s i 0) 5 && (unnamed s i 2 && eqb count 1)) true))
-      (λ t. rw (of-kind-4 s count i t) (judged-small (eqb (wd s i 0) 4 && unnamed s i 7) (progressionRange (wd s i 2) (wd s i 4) (wd s i 5))))
+      (λ t. rw (of-whole-tile s count i t) (judged-small (eqb (wd s i 0) 5 && (unnamed s i 2 && eqb count 1)) true))
+      (λ t. rw (of-volume s count i t) (judged-small (isVolume (wd s i 0) && unnamed s i 7) (progressionRange (wd s i 2) (wd s i 4) (wd s i 5))))
 
   record-small : (count i : ℕ) (d : Due) → recordVerdict s count i d ≤ 3
   unfolding recordVerdict

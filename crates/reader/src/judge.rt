@@ -83,7 +83,7 @@ fn volume_verdict(s: &[u8], i: usize) -> u32
     requires { ⌜ i ≤ 1000 ⌝ }
     ensures { λ r. ⌜ r ≡ volumeVerdict (now (s .entry)) i ⌝ }
 {
-    let shape = (word(s, i, 0) == 4) & no_more(s, i, 7);
+    let shape = Progression::is_volume(word(s, i, 0)) & no_more(s, i, 7);
     let range = Progression::in_range(word(s, i, 2), word(s, i, 4), word(s, i, 5));
     verdict(shape, range)
 }

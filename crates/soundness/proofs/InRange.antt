@@ -5,11 +5,11 @@ use Prim.Native.Nat.{ℕ, _-_, _≤_}
 use lib.Dec.{ltb, leb, eqb}
 use mir.Syntax.{w32}
 use mir.Val.{SFits, ofZ}
-use borrow.Author.Tests.{lt-ltb, le-ltb, ne-eqb, leb-true}
+use borrow.Author.Tests.{lt-ltb, le-ltb, leb-true}
 use Rattle.laws.specs.Cases.{and-true}
 use Rattle.laws.specs.Below.{allBelow}
 use Rattle.laws.specs.Parts.{all-parts}
-use Rattle.types.specs.Ranges.{within, progressionRange}
+use Rattle.types.specs.Ranges.{within, isVolume, not-whole, progressionRange}
 use Rattle.packets.specs.Tile.{dxOf, dyOf, resOf}
 use Rattle.packets.specs.Grid.{changeOf}
 use Rattle.types.specs.Signed.{bits-zero}
@@ -25,13 +25,13 @@ or-false false = refl
 
 -- the cases of a progression's test
 module _ (there alone : Bool) (q : Progression) where
-  pub fits-volume : there ≡ true → q .kind ≡ 4 → progressionRange (q .resno0) (q .layno1) (q .resno1) ≡ progressionFits there alone q
+  pub fits-volume : there ≡ true → isVolume (q .kind) ≡ true → progressionRange (q .resno0) (q .layno1) (q .resno1) ≡ progressionFits there alone q
   unfolding progressionFits
-  fits-volume t k = rw (t, k) (sym (or-false _))
+  fits-volume t k = rw (t, k, not-whole (q .kind) k) (sym (or-false _))
 
-  pub fits-whole : there ≡ true → (q .kind ≡ 4 → ⊥) → (eqb (q .kind) 5 && (alone && noRange q)) ≡ progressionFits there alone q
+  pub fits-whole : there ≡ true → isVolume (q .kind) ≡ false → (eqb (q .kind) 5 && (alone && noRange q)) ≡ progressionFits there alone q
   unfolding progressionFits
-  fits-whole t k = rw (t, ne-eqb (q .kind) 4 k)
+  fits-whole t k = rw (t, k)
 
   pub fits-none : there ≡ false → SFits w32 (q .prg) → (eqb (q .kind) 0 && (eqb (ofZ w32 (q .prg)) 0 && noRange q)) ≡ progressionFits there alone q
   unfolding progressionFits

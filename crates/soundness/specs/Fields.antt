@@ -2,7 +2,7 @@
 use Prim.Native.Nat.{ℕ}
 use mathlib.Core.Bool.{Bool, cond, _&&_, _||_}
 use lib.Dec.{eqb}
-use Rattle.types.specs.Ranges.{componentRange, progressionRange}
+use Rattle.types.specs.Ranges.{componentRange, isVolume, progressionRange}
 use Rattle.types.specs.Signed.{isZero}
 use Rattle.packets.specs.Sound.{noRange}
 use Rattle.types.specs.declared.state.Progression.{Progression}
@@ -15,5 +15,5 @@ componentFits there dx dy resolutions = cond there (componentRange dx dy resolut
 unfoldable pub progressionFits : Bool → Bool → Progression → Bool
 progressionFits there alone q =
     cond there
-    ((eqb (q .kind) 4 && progressionRange (q .resno0) (q .layno1) (q .resno1)) || (eqb (q .kind) 5 && (alone && noRange q)))
+    ((isVolume (q .kind) && progressionRange (q .resno0) (q .layno1) (q .resno1)) || (eqb (q .kind) 5 && (alone && noRange q)))
     (eqb (q .kind) 0 && (isZero (q .prg) && noRange q))

@@ -59,12 +59,12 @@ fn no_range(q: Progression) -> bool
     (q.resno0 == 0) & ((q.compno0 == 0) & ((q.layno1 == 0) & ((q.resno1 == 0) & (q.compno1 == 0))))
 }
 
-// A progression is of kind 4 and in range, or of kind 5 and alone; where there is none every number is 0.
+// A progression is of kind 4 or 6 and in range, or of kind 5 and alone; where there is none every number is 0.
 fn progression_fits(there: bool, alone: bool, q: Progression) -> bool
     ensures { λ r. ⌜ r ≡ progressionFits there alone q ⌝ }
 {
     if there {
-        if q.kind == Progression::VOLUME {
+        if Progression::is_volume(q.kind) {
             return Progression::in_range(q.resno0, q.layno1, q.resno1);
         }
         return (q.kind == Progression::WHOLE_TILE) & (alone & no_range(q));

@@ -1,14 +1,15 @@
--- The grid is agreed for every progression: where one wants something of all components, they have it or not, and nothing else matters; else each wants
--- something of its own, which have it where all have it. Assumes nothing.
+-- The grid is agreed for every progression: where one wants something of all components, they have the most that is wanted or not, and nothing else matters; else
+-- each wants something of its own, which have it where all have it. Assumes nothing.
 use mathlib.Core.Path.{_≡_, refl, sym, _∙_}
-use mathlib.Core.Bool.{Bool, true, false, _&&_, _||_, true≢false}
+use mathlib.Core.Bool.{Bool, true, false, cond, _&&_, _||_, true≢false}
+use mathlib.Core.Logic.{⊎-elim}
 use mathlib.Core.List.{List}
-use Prim.Native.Nat.{ℕ, _%_, _≤_, _<_}
+use Prim.Native.Nat.{ℕ, _-_, _%_, _≤_, _<_}
 use native.Mathlib.Omega.{arith}
 use lib.Dec.{ltb, eqb}
-use borrow.Author.Tests.{leb-true}
-use Rattle.laws.specs.Cases.{and-true, and-both, split, asked-same}
-use Rattle.laws.specs.Below.{all-at}
+use borrow.Author.Tests.{leb-true, lt-ltb, le-ltb}
+use Rattle.laws.specs.Cases.{le-or-lt, and-true, and-both, split, asked-same}
+use Rattle.laws.specs.Below.{all-at, max-at, max-least}
 use Rattle.laws.specs.Pointwise.{all-true, all-same}
 use Rattle.laws.specs.Extremes.{same-tests, all-and}
 use Rattle.packets.specs.Tile.{Sheet, resOf}
@@ -17,8 +18,9 @@ use Rattle.types.specs.declared.order.Order.{Order}
 use Rattle.types.specs.declared.order.Order.the-variants.{Lrcp as lrcp, Rlcp as rlcp, Rpcl as rpcl, Pcrl as pcrl, Cprl as cprl, NoPositions as other}
 use Rattle.types.specs.declared.order.Range.{Range}
 use Rattle.packets.specs.Grid.{everywhere, stepX, stepY, smallest, stepsFit, stepsDivide, agreed, changeOf, gridAgreed}
+use Rattle.types.specs.declared.state.Progression.{Progression}
 use Rattle.packets.specs.Meaning.{fit-means, agreed-means}
-use Rattle.survey.specs.Passing.{wantsOwn, allWantOwn, fitBetween, ownFit, rangesFit}
+use Rattle.survey.specs.Passing.{wantOf, wantFor, mostWanted, fitBetween, ownFit, rangesFit}
 
 -- the two axes one after the other
 pub divide-axes : (s : Sheet)
@@ -30,70 +32,96 @@ divide-axes s =
     (λ c h. all-and (λ r. eqb (stepX s c r % smallest (stepX s) (s .st)) 0) (λ r. eqb (stepY s c r % smallest (stepY s) (s .st)) 0) (resOf (s .st) c))
     ∙ all-and _ _ (s .st .components)
 
+-- who goes by all components wants something of all
+of-all : (six : Bool) → cond six 2 3 < 2 → ⊥
+of-all true h = omega arith
+of-all false h = omega arith
+
 module _ (s : Sheet) where
   abbrev fit : Bool
   fit = stepsFit s 0 (s .st .components)
 
+  -- the components have what is wanted up to n, of which 2 and 3 are of all
+  abbrev have : ℕ → Bool
+  have n = fit && (ltb n 3 || stepsDivide s)
+
   -- steps that fit everywhere fit in any range
-  range-agrees : fit ≡ true → (g : Range) → agreed s g cprl ≡ true
-  range-agrees t g = agreed-means s g cprl .1 (λ w c a b r l. fit-means s 0 (s .st .components) .0 t c (omega arith) (omega (arith, w .1)) r l)
+  range-agrees : fit ≡ true → (kind : ℕ) (g : Range) → agreed s kind g cprl ≡ true
+  range-agrees t kind g = agreed-means s kind g cprl .1 (λ w c a b r l. fit-means s 0 (s .st .components) .0 t c (omega arith) (omega (arith, w .1)) r l)
 
-  -- so they are enough for any order, with a smallest that divides where it wants that
-  all-agree : fit ≡ true → (g : Range) (o : Order) → (wantsOwn o ≡ false → stepsDivide s ≡ true) → agreed s g o ≡ true
-  all-agree t g lrcp d = refl
-  all-agree t g rlcp d = refl
-  all-agree t g rpcl d = and-both t (d refl)
-  all-agree t g pcrl d = and-both t (d refl)
-  all-agree t g cprl d = range-agrees t g
-  all-agree t g other d = refl
+  -- an order that goes by all components, of kind 6 or not, is agreed where they have what it wants
+  points-agree : (six : Bool) (n : ℕ) → have n ≡ true → cond six 2 3 ≤ n → (fit && (six || stepsDivide s)) ≡ true
+  points-agree true n e h = and-both (and-true fit _ e .0) refl
+  points-agree false n e h = rw (le-ltb n 3 h) at e
 
-  -- and an order that is agreed without it wants nothing of others than its own
-  agreed-own : (fit && stepsDivide s) ≡ false → (g : Range) (o : Order) → agreed s g o ≡ true → wantsOwn o ≡ true
-  agreed-own f g lrcp t = refl
-  agreed-own f g rlcp t = refl
-  agreed-own f g rpcl t = absurd (true≢false (sym t ∙ f))
-  agreed-own f g pcrl t = absurd (true≢false (sym t ∙ f))
-  agreed-own f g cprl t = refl
-  agreed-own f g other t = refl
+  -- and else it wants less than n
+  points-less : (six : Bool) (n : ℕ) → have n ≡ false → cond six 2 3 ≤ n → (fit && (six || stepsDivide s)) ≡ true → cond six 2 3 < n
+  points-less true n e h t =
+      ⊎-elim (λ l. absurd (true≢false (sym (and-both (and-true fit _ t .0) (rw (lt-ltb n 3 (omega arith)) refl)) ∙ e))) (λ l. l) (le-or-lt n 2)
+  points-less false n e h t = absurd (true≢false (sym (rw (le-ltb n 3 h) t) ∙ e))
+
+  all-agree : (n kind : ℕ) (g : Range) (o : Order) → have n ≡ true → wantOf kind o ≤ n → agreed s kind g o ≡ true
+  all-agree n kind g lrcp e h = refl
+  all-agree n kind g rlcp e h = refl
+  all-agree n kind g rpcl e h = points-agree (eqb kind 6) n e h
+  all-agree n kind g pcrl e h = points-agree (eqb kind 6) n e h
+  all-agree n kind g cprl e h = range-agrees (and-true fit _ e .0) kind g
+  all-agree n kind g other e h = refl
+
+  agreed-less : (n kind : ℕ) (g : Range) (o : Order) → 2 ≤ n → have n ≡ false → wantOf kind o ≤ n → agreed s kind g o ≡ true → wantOf kind o < n
+  agreed-less n kind g lrcp some e h t = omega arith
+  agreed-less n kind g rlcp some e h t = omega arith
+  agreed-less n kind g rpcl some e h t = points-less (eqb kind 6) n e h t
+  agreed-less n kind g pcrl some e h t = points-less (eqb kind 6) n e h t
+  agreed-less n kind g cprl some e h t = omega arith
+  agreed-less n kind g other some e h t = omega arith
+
+  -- no progression wants more than the most
+  wants : (k : ℕ) → k < s .st .progressions → wantFor (changeOf (s .st) k) ≤ mostWanted (s .st)
+  unfolding mostWanted
+  wants k h = max-at (λ k. wantFor (changeOf (s .st) k)) (s .st .progressions) k h
 
   -- ONE WANTS SOMETHING OF ALL
-  pub grid-all : allWantOwn (s .st) ≡ false → gridAgreed s ≡ (fit && stepsDivide s)
-  unfolding gridAgreed allWantOwn
+  pub grid-all : 2 ≤ mostWanted (s .st) → gridAgreed s ≡ have (mostWanted (s .st))
+  unfolding gridAgreed mostWanted
   grid-all some =
       same-tests _ _
-      (λ t.
-      split (fit && stepsDivide s)
-      (λ e. e)
-      (λ f.
-      absurd
-      (true≢false
-      (sym (all-true _ (s .st .progressions) (λ k h. agreed-own f (rangeOf (s .st) (changeOf (s .st) k)) (orderOf (changeOf (s .st) k .prg)) (all-at _ (s .st .progressions) t k h)))
-      ∙ some))))
-      (λ t.
-      let w = and-true fit (stepsDivide s) t in
-      all-true _ (s .st .progressions) (λ k h. all-agree (w .0) (rangeOf (s .st) (changeOf (s .st) k)) (orderOf (changeOf (s .st) k .prg)) (λ n. w .1)))
+      (λ t. split (have most) (λ e. e) (λ e. absurd (never e t)))
+      (λ e. all-true _ (s .st .progressions) (λ k h. let q : Progression = changeOf (s .st) k in all-agree most (q .kind) (rangeOf (s .st) q) (orderOf (q .prg)) e (wants k h)))
+    where
+      most : ℕ
+      most = mostWanted (s .st)
+
+      never : have most ≡ false → gridAgreed s ≡ true → ⊥
+      never e t =
+          let less : mostWanted (s .st) ≤ most - 1
+          = max-least (λ k. wantFor (changeOf (s .st) k)) (s .st .progressions) (most - 1)
+          (λ k h.
+          let q : Progression = changeOf (s .st) k in
+          let l : wantFor q < most = agreed-less most (q .kind) (rangeOf (s .st) q) (orderOf (q .prg)) some e (wants k h) (all-at _ (s .st .progressions) t k h) in
+          omega arith) in
+          omega arith
 
   -- EACH OF ITS OWN. Of these a list says whether their steps fit
   module _ (l : List Bool) (says : (c0 c1 : ℕ) → c1 ≤ s .st .components → stepsFit s c0 c1 ≡ fitBetween l c0 c1) where
-    own-agrees : (g : Range) (o : Order) → wantsOwn o ≡ true → agreed s g o ≡ ownFit (s .st) l g o
-    own-agrees g lrcp t = refl
-    own-agrees g rlcp t = refl
-    own-agrees g rpcl t = absurd (true≢false (sym t))
-    own-agrees g pcrl t = absurd (true≢false (sym t))
-    own-agrees g cprl t =
+    own-agrees : (kind : ℕ) (g : Range) (o : Order) → wantOf kind o < 2 → agreed s kind g o ≡ ownFit (s .st) l g (wantOf kind o)
+    own-agrees kind g lrcp h = refl
+    own-agrees kind g rlcp h = refl
+    own-agrees kind g rpcl h = absurd (of-all (eqb kind 6) h)
+    own-agrees kind g pcrl h = absurd (of-all (eqb kind 6) h)
+    own-agrees kind g cprl h =
         asked-same (componentsGood (s .st) g) (stepsFit s (g .compno0) (g .compno1)) (fitBetween l (g .compno0) (g .compno1))
         (λ e. says (g .compno0) (g .compno1) (leb-true _ _ (and-true (ltb (g .compno0) (s .st .components)) _ e .1)))
-    own-agrees g other t = refl
+    own-agrees kind g other h = refl
 
-    pub grid-own : allWantOwn (s .st) ≡ true → gridAgreed s ≡ (fit || rangesFit (s .st) l)
-    unfolding gridAgreed allWantOwn rangesFit
-    grid-own t = by fit refl
+    pub grid-own : mostWanted (s .st) < 2 → gridAgreed s ≡ (fit || rangesFit (s .st) l)
+    unfolding gridAgreed rangesFit
+    grid-own few = by fit refl
       where
-        wants : (k : ℕ) → k < s .st .progressions → wantsOwn (orderOf (changeOf (s .st) k .prg)) ≡ true
-        wants = all-at _ (s .st .progressions) t
-
         by : (b : Bool) → fit ≡ b → gridAgreed s ≡ (b || rangesFit (s .st) l)
         by true f =
             all-true _ (s .st .progressions)
-            (λ k h. all-agree f (rangeOf (s .st) (changeOf (s .st) k)) (orderOf (changeOf (s .st) k .prg)) (λ n. absurd (true≢false (sym (wants k h) ∙ n))))
-        by false f = all-same _ _ (s .st .progressions) (λ k h. own-agrees (rangeOf (s .st) (changeOf (s .st) k)) (orderOf (changeOf (s .st) k .prg)) (wants k h))
+            (λ k h. let q : Progression = changeOf (s .st) k in all-agree 1 (q .kind) (rangeOf (s .st) q) (orderOf (q .prg)) (and-both f refl) (omega (arith, wants k h)))
+        by false f =
+            all-same _ _ (s .st .progressions)
+            (λ k h. let q : Progression = changeOf (s .st) k in own-agrees (q .kind) (rangeOf (s .st) q) (orderOf (q .prg)) (omega (arith, wants k h)))

@@ -4,7 +4,8 @@ use mathlib.Core.Bool.{Bool, true, false, cond, _&&_, _||_}
 use mathlib.Core.List.{List}
 use Prim.Native.Nat.{ℕ, _+_, _-_, _≤_, _<_, min}
 use native.Mathlib.Omega.{arith}
-use borrow.Author.Tests.{le-leb}
+use lib.Dec.{ltb}
+use borrow.Author.Tests.{ltb-true, ltb-false, le-leb}
 use Rattle.laws.specs.Cases.{split}
 use Rattle.laws.specs.Below.{allBelow, all-at}
 use Rattle.laws.specs.Pointwise.{all-same}
@@ -13,7 +14,7 @@ use Rattle.packets.specs.Grid.{stepX, stepY, stepsFit, stepsDivide, gridAgreed}
 use Rattle.packets.specs.Meaning.{StepsFit, fit-means}
 use Rattle.types.specs.declared.state.State.{State}
 use Rattle.survey.specs.Capped.{capped, same-few, same-number}
-use Rattle.survey.specs.Passing.{allWantOwn, multiples, fitBetween, rangesFit, agreedOf, neededOf, marksOf, findingsOf}
+use Rattle.survey.specs.Passing.{mostWanted, multiples, fitBetween, rangesFit, agreedOf, neededOf, marksOf, findingsOf}
 use Rattle.survey.specs.declared.sums.Sums.{Sums}
 use Rattle.survey.specs.declared.places.Places.{Places}
 use Rattle.survey.specs.Ranges.{Ranged, in-range}
@@ -66,9 +67,10 @@ module _ {e : List ℕ} {p : Places} {check : Bool} {st : State} {here : Places}
       rw (s .sums) (divide-axes (sheetBy e p st) ∙ (λ i. x i && y i))
 
   -- whether they divide is asked only where all fit
-  whole-is : (stepsFit (sheetBy e p st) 0 (st .components) && stepsDivide (sheetBy e p st))
-      ≡ (all .fit && (multiples xs (st .components) (all .«x_least») && multiples ys (st .components) (all .«y_least»)))
-  whole-is = rw (← all-fit) (by (stepsFit (sheetBy e p st) 0 (st .components)) divides)
+  whole-is : (few : Bool)
+      → (stepsFit (sheetBy e p st) 0 (st .components) && (few || stepsDivide (sheetBy e p st)))
+      ≡ (all .fit && (few || (multiples xs (st .components) (all .«x_least») && multiples ys (st .components) (all .«y_least»))))
+  whole-is few = rw (← all-fit) (by (stepsFit (sheetBy e p st) 0 (st .components)) (λ f. ap (λ (t : Bool). few || t) (divides f)))
     where
       by : {a b : Bool} (t : Bool) → (t ≡ true → a ≡ b) → (t && a) ≡ (t && b)
       by true h = h refl
@@ -77,9 +79,9 @@ module _ {e : List ℕ} {p : Places} {check : Bool} {st : State} {here : Places}
   grid-is : agreedOf st (all .fit) fits xs (all .«x_least») ys (all .«y_least») ≡ gridAgreed (sheetBy e p st)
   unfolding agreedOf
   grid-is =
-      split (allWantOwn st)
-      (λ t. rw t (sym (grid-own (sheetBy e p st) fits between-is t ∙ ap (λ (f : Bool). f || rangesFit st fits) all-fit)))
-      (λ t. rw t (sym (grid-all (sheetBy e p st) t ∙ whole-is)))
+      split (ltb (mostWanted st) 2)
+      (λ t. rw t (sym (grid-own (sheetBy e p st) fits between-is (ltb-true _ _ t) ∙ ap (λ (f : Bool). f || rangesFit st fits) all-fit)))
+      (λ t. rw t (sym (grid-all (sheetBy e p st) (ltb-false _ _ t) ∙ whole-is (ltb (mostWanted st) 3))))
 
   good-is : st .components ≤ 16 → goodOver e (placeIn p st) check st ≡ true
   unfolding goodOver

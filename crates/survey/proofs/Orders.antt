@@ -1,29 +1,25 @@
 -- What the progressions want of the grid: those beyond the array want nothing. Assumes nothing.
-use mathlib.Core.Path.{_≡_, refl}
-use mathlib.Core.Bool.{Bool, true}
+use mathlib.Core.Path.{_≡_, ap}
+use mathlib.Core.Bool.{Bool}
 use mathlib.Core.List.{List}
-use Prim.Native.Nat.{min}
+use Prim.Native.Nat.{ℕ, _≤_, min}
 use native.Mathlib.Omega.{arith}
 use lib.ListN.{length, List·getD-eq-default}
-use Rattle.laws.specs.Below.{allBelow}
-use Rattle.laws.specs.Extremes.{all-up-to}
+use Rattle.laws.specs.Below.{allBelow, maxBelow}
+use Rattle.laws.specs.Extremes.{all-up-to, max-up-to}
 use Rattle.types.specs.State.{noProgression}
-use Rattle.types.specs.Orders.{orderOf}
 use Rattle.packets.specs.Grid.{changeOf}
-use Rattle.types.specs.declared.state.Progression.{Progression}
 use Rattle.types.specs.declared.state.State.{State}
-use Rattle.survey.specs.Passing.{wantsOwn, allWantOwn, rangeFits, rangesFit}
+use Rattle.survey.specs.Passing.{wantFor, mostWanted, rangeFits, rangesFit}
 
 module _ (st : State) (long : length (st .changes) ≡ 32) where
-  -- a test that a progression with every number 0 passes
-  up-to : (f : Progression → Bool) → f noProgression ≡ true
-      → allBelow (λ k. f (changeOf st k)) (min (st .progressions) 32) ≡ allBelow (λ k. f (changeOf st k)) (st .progressions)
-  up-to f h = all-up-to (λ k. f (changeOf st k)) 32 (λ k l. rw (List·getD-eq-default (st .changes) noProgression {n = k} (omega arith)) h) (st .progressions)
+  none : (k : ℕ) → 32 ≤ k → changeOf st k ≡ noProgression
+  none k h = List·getD-eq-default (st .changes) noProgression {n = k} (omega arith)
 
-  pub wanted-up-to : allBelow (λ k. wantsOwn (orderOf (changeOf st k .prg))) (min (st .progressions) 32) ≡ allWantOwn st
-  unfolding allWantOwn
-  wanted-up-to = up-to (λ q. wantsOwn (orderOf (q .prg))) refl
+  pub wanted-up-to : maxBelow (λ k. wantFor (changeOf st k)) (min (st .progressions) 32) ≡ mostWanted st
+  unfolding mostWanted
+  wanted-up-to = max-up-to (λ k. wantFor (changeOf st k)) 32 (λ k l. ap wantFor (none k l)) (st .progressions)
 
   pub fit-up-to : (l : List Bool) → allBelow (λ k. rangeFits st l (changeOf st k)) (min (st .progressions) 32) ≡ rangesFit st l
   unfolding rangesFit
-  fit-up-to l = up-to (rangeFits st l) refl
+  fit-up-to l = all-up-to (λ k. rangeFits st l (changeOf st k)) 32 (λ k h. ap (rangeFits st l) (none k h)) (st .progressions)

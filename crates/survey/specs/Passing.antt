@@ -159,43 +159,47 @@ exponentsAt p r = p .first + p .apart * r
 abbrev pub placesAfter : Places → ℕ → Places
 placesAfter p n = record { first = p .first + (p .apart * n + p .between); apart = p .apart; between = p .between }
 
--- THE GRID (01, 'Agreed grid', and 02, P5): 1 for an order that wants the steps of the components in its range to fit 32 bits, 2 for one that wants those of
--- all to fit, and a smallest that divides too
-abbrev pub wantOf : Order → ℕ
-wantOf lrcp = 0
-wantOf rlcp = 0
-wantOf rpcl = 2
-wantOf pcrl = 2
-wantOf cprl = 1
-wantOf other = 0
+-- THE GRID (01, 'Agreed grid', and 02, P5 and P6): what a kind and an order want. 1: the steps of the components in range fit 32 bits; 2: those of all do; 3: and
+-- the smallest divides them
+abbrev pub wantOfAll : ℕ → ℕ
+wantOfAll kind = cond (eqb kind 6) 2 3
 
--- no progression wants something of other components than its own
-abbrev pub wantsOwn : Order → Bool
-wantsOwn o = ltb (wantOf o) 2
+abbrev pub wantOf : ℕ → Order → ℕ
+wantOf kind lrcp = 0
+wantOf kind rlcp = 0
+wantOf kind rpcl = wantOfAll kind
+wantOf kind pcrl = wantOfAll kind
+wantOf kind cprl = 1
+wantOf kind other = 0
 
-unfoldable pub allWantOwn : State → Bool
-allWantOwn st = allBelow (λ k. wantsOwn (orderOf (changeOf st k .prg))) (st .progressions)
+abbrev pub wantFor : Progression → ℕ
+wantFor q = wantOf (q .kind) (orderOf (q .prg))
+
+-- the most that a progression wants
+unfoldable pub mostWanted : State → ℕ
+mostWanted st = maxBelow (λ k. wantFor (changeOf st k)) (st .progressions)
 
 unfoldable pub multiples : List ℕ → ℕ → ℕ → Bool
 multiples l n m = allBelow (λ c. eqb (getD l c 0 % m) 0) n
 
--- by a list that says of each component whether its steps fit: those from c0 up to c1 do; those in a range do, where an order wants it; and so it is for
+-- by a list that says of each component whether its steps fit: those from c0 up to c1 do; those in a range do, where that is wanted; and so it is for
 -- every progression
 unfoldable pub fitBetween : List Bool → ℕ → ℕ → Bool
 fitBetween l c0 c1 = allBelow (λ i. getD l (c0 + i) false) (c1 - c0)
 
-abbrev pub ownFit : State → List Bool → Range → Order → Bool
-ownFit st l g o = not (eqb (wantOf o) 1 && componentsGood st g) || fitBetween l (g .compno0) (g .compno1)
+abbrev pub ownFit : State → List Bool → Range → ℕ → Bool
+ownFit st l g want = not (eqb want 1 && componentsGood st g) || fitBetween l (g .compno0) (g .compno1)
 
 abbrev pub rangeFits : State → List Bool → Progression → Bool
-rangeFits st l q = ownFit st l (rangeOf st q) (orderOf (q .prg))
+rangeFits st l q = ownFit st l (rangeOf st q) (wantFor q)
 
 unfoldable pub rangesFit : State → List Bool → Bool
 rangesFit st l = allBelow (λ k. rangeFits st l (changeOf st k)) (st .progressions)
 
 unfoldable pub agreedOf : State → Bool → List Bool → List ℕ → ℕ → List ℕ → ℕ → Bool
 agreedOf st fit fits xs x ys y =
-    cond (allWantOwn st) (fit || rangesFit st fits) (fit && (multiples xs (st .components) x && multiples ys (st .components) y))
+    cond (ltb (mostWanted st) 2) (fit || rangesFit st fits)
+    (fit && (ltb (mostWanted st) 3 || (multiples xs (st .components) x && multiples ys (st .components) y)))
 
 -- MARKS
 abbrev pub neededOf : ℕ → ℕ → ℕ → ℕ → ℕ

@@ -1,4 +1,4 @@
-// Whether the grid is agreed (01, 'Agreed grid', and 02, P5): what the progressions want of the steps, and whether the steps have it.
+// Whether the grid is agreed (01, 'Agreed grid', and 02, P5 and P6): what the progressions want of the steps, and whether the steps have it.
 use geometry::math;
 use types::order::Order;
 use types::order::Range;
@@ -6,38 +6,43 @@ use types::state::Progression;
 use types::state::State;
 ghost use mathlib.Core.Path.{_≡_};
 ghost use Prim.Native.Nat.{_≤_, _<_};
-ghost use Rattle.survey.specs.Passing.{wantOf, allWantOwn, multiples, fitBetween, rangeFits, rangesFit, agreedOf};
+ghost use Rattle.survey.specs.Passing.{wantOfAll, wantOf, mostWanted, multiples, fitBetween, rangeFits, rangesFit, agreedOf};
 
-// Whose steps an order wants to fit 32 bits: 0 no one's, 1 those of the components in its range, 2 those of all components, and that the smallest also divides
-// every other.
-fn want(order: Order) -> u32
-    ensures { λ r. ⌜ r ≡ wantOf order ⌝ }
+// What an order wants that goes over all components at each point.
+fn want_of_all(kind: u32) -> u32
+    ensures { λ r. ⌜ r ≡ wantOfAll kind ⌝ }
+{
+    if kind == Progression::MIXED { 2 } else { 3 }
+}
+
+// What a progression wants of the steps. 1: those of the components in its range fit 32 bits; 2: those of all components do; 3: and the smallest divides every
+// other.
+fn want(kind: u32, order: Order) -> u32
+    ensures { λ r. ⌜ r ≡ wantOf kind order ⌝ }
 {
     match order {
         Order::Lrcp => 0,
         Order::Rlcp => 0,
-        Order::Rpcl => 2,
-        Order::Pcrl => 2,
+        Order::Rpcl => want_of_all(kind),
+        Order::Pcrl => want_of_all(kind),
         Order::Cprl => 1,
         Order::NoPositions => 0,
     }
 }
 
-// No progression of st wants something of other components than its own.
-fn all_want_own(st: State) -> bool
-    ensures { λ r. ⌜ r ≡ allWantOwn st ⌝ }
+// The most that a progression of st wants.
+fn most_wanted(st: State) -> u32
+    ensures { λ r. ⌜ r ≡ mostWanted st ⌝ }
 {
     let n = math::uint_min(st.progressions, State::MAX_PROGRESSIONS) as usize;
+    let mut most: u32 = 0;
     let mut k: usize = 0;
     while k < n {
         let p = st.changes[k];
-        if want(Order::of(p.prg)) < 2 {
-            k += 1;
-        } else {
-            return false;
-        }
+        most = math::uint_max(most, want(p.kind, Order::of(p.prg)));
+        k += 1;
     }
-    true
+    most
 }
 
 // The first n numbers are multiples of m.
@@ -78,7 +83,7 @@ fn range_fits(st: State, q: Progression, fits: &[bool; State::COMPONENT_PLACES])
     ensures { λ r. ⌜ r ≡ rangeFits st (now (fits .entry)) q ⌝ }
 {
     let order = Order::of(q.prg);
-    if want(order) == 1 {
+    if want(q.kind, order) == 1 {
         let g = Range::of(st, q);
         if g.components_good(st) {
             return fit_between(fits, g.compno0 as usize, g.compno1 as usize);
@@ -119,7 +124,8 @@ pub(crate) fn agreed(
     requires { ⌜ (st .components ≤ 16) × (0 < x) × (0 < y) ⌝ }
     ensures { λ r. ⌜ r ≡ agreedOf st fit (now (fits .entry)) (now (xs .entry)) x (now (ys .entry)) y ⌝ }
 {
-    if all_want_own(st) {
+    let most = most_wanted(st);
+    if most < 2 {
         if fit {
             return true;
         }
@@ -127,6 +133,9 @@ pub(crate) fn agreed(
     }
     if !fit {
         return false;
+    }
+    if most < 3 {
+        return true;
     }
     let n = st.components as usize;
     let along = all_multiples(xs, n, x);

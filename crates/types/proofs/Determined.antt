@@ -12,6 +12,8 @@ use Rattle.types.proofs.state.Progression.none.Kinds as none-kinds
 use Rattle.types.proofs.state.Progression.none.Reads as none
 use Rattle.types.proofs.state.State.empty.Kinds as empty-kinds
 use Rattle.types.proofs.state.State.empty.Reads as empty
+use Rattle.types.proofs.state.Progression.is_volume.Kinds as is-volume-kinds
+use Rattle.types.proofs.state.Progression.is_volume.Reads as is-volume
 use Rattle.types.proofs.state.Progression.in_range.Kinds as in-range-kinds
 use Rattle.types.proofs.state.Progression.in_range.Reads as in-range
 use Rattle.types.proofs.state.State.tile_in_range.Kinds as tile-in-range-kinds
@@ -53,6 +55,9 @@ none-determined κs a r s e f = determined _ r s
 
 pub empty-determined : OneAnswer empty-kinds.ps empty-kinds.r empty.Post
 empty-determined κs a r s e f = determined _ r s
+
+pub is-volume-determined : OneAnswer is-volume-kinds.ps is-volume-kinds.r is-volume.Post
+is-volume-determined κs a r s e f = determined _ r s
 
 pub in-range-determined : OneAnswer in-range-kinds.ps in-range-kinds.r in-range.Post
 in-range-determined κs a r s e f = determined _ r s

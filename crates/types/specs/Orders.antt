@@ -33,7 +33,7 @@ byPoints other = false
 abbrev pub wholeTile : State → Range
 wholeTile st = record { layno1 = st .layers; resno0 = 0; resno1 = st .reports .«max_res»; compno0 = 0; compno1 = st .components }
 
--- 01: kind 4 sets layers 0 to min(layno1, layers)
+-- 01: kind 4 sets layers 0 to min(layno1, layers); 02, P6: so does kind 6
 abbrev pub volume : State → Progression → Range
 volume st q =
     record { layno1 = min (q .layno1) (st .layers); resno0 = q .resno0; resno1 = q .resno1; compno0 = q .compno0; compno1 = q .compno1 }

@@ -1,11 +1,11 @@
 // A sheet's fields as setup answers them, by value. Precinct exponents are not here: they stand in the table.
 ghost use mathlib.Core.Path.{_≡_};
-ghost use Rattle.types.specs.Ranges.{within, tileRange, componentRange, exponentRange, progressionRange};
+ghost use Rattle.types.specs.Ranges.{within, tileRange, componentRange, exponentRange, isVolume, progressionRange};
 ghost use Rattle.types.specs.State.{noProgression, noReports, emptyState};
 
 // A progression as its record has it. Names are those of opj_poc_t.
 pub struct Progression {
-    // 4, or 5 for one of the whole tile
+    // 4, 6 for one whose steps need not divide one another, or 5 for one of the whole tile
     pub kind: u32,
     pub prg: i32,
     pub resno0: u32,
@@ -61,6 +61,8 @@ impl Progression {
 
     pub const WHOLE_TILE: u32 = 5;
 
+    pub const MIXED: u32 = 6;
+
     pub const MAX_RESNO0: u32 = 32;
 
     pub const MAX_RESNO1: u32 = 33;
@@ -80,7 +82,14 @@ impl Progression {
         }
     }
 
-    // 01: the ranges of a record of kind 4.
+    // 01, 02's P6: a kind whose record has the ranges of the loops.
+    pub fn is_volume(kind: u32) -> bool
+        ensures { λ r. ⌜ r ≡ isVolume kind ⌝ }
+    {
+        (kind == Progression::VOLUME) | (kind == Progression::MIXED)
+    }
+
+    // 01: the ranges of such a record.
     pub fn in_range(resno0: u32, layno1: u32, resno1: u32) -> bool
         ensures { λ r. ⌜ r ≡ progressionRange resno0 layno1 resno1 ⌝ }
     {

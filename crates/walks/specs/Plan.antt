@@ -18,7 +18,7 @@ use Rattle.packets.specs.Positions.{hasPositions, positionsIn}
 use Rattle.packets.specs.Table.{sheetAt}
 use Rattle.packets.specs.Grid.{changeOf}
 use Rattle.packets.specs.Sound.{positionsFor}
-use Rattle.packets.specs.Meaning.{Sound, StepsFit, ComponentsIn, AgreedFor, components-in-means, sound-good, sound-means}
+use Rattle.packets.specs.Meaning.{Sound, StepsFit, ComponentsIn, Agreed, components-in-means, sound-good, sound-means}
 use Rattle.packets.specs.Good.{Good}
 use Rattle.packets.specs.Ended.{endedAt, positions-ended}
 use Rattle.packets.specs.Inside.{has-good, good-has, positions-none, in-positions, in-range, inside}
@@ -167,13 +167,13 @@ module _ (st : State) (table : List ℕ) (k : ℕ) (plan : Plan) (marks : List �
         }
 
   -- an order by points is one; the numbers of its components are prepared, and fit
-  steps-fit : (g : Range) (o : Order) → byPoints o ≡ true → ComponentsIn st g → AgreedFor sheet g o → StepsFit sheet (g .compno0) (g .compno1)
-  steps-fit g lrcp b w a = absurd (true≢false (sym b))
-  steps-fit g rlcp b w a = absurd (true≢false (sym b))
-  steps-fit g rpcl b w a = λ c h i r l. a .0 c (omega arith) (omega (arith, w .1)) r l
-  steps-fit g pcrl b w a = λ c h i r l. a .0 c (omega arith) (omega (arith, w .1)) r l
-  steps-fit g cprl b w a = a w
-  steps-fit g other b w a = absurd (true≢false (sym b))
+  steps-fit : (kind : ℕ) (g : Range) (o : Order) → byPoints o ≡ true → ComponentsIn st g → Agreed sheet kind g o → StepsFit sheet (g .compno0) (g .compno1)
+  steps-fit kind g lrcp b w a = absurd (true≢false (sym b))
+  steps-fit kind g rlcp b w a = absurd (true≢false (sym b))
+  steps-fit kind g rpcl b w a = λ c h i r l. a .0 c (omega arith) (omega (arith, w .1)) r l
+  steps-fit kind g pcrl b w a = λ c h i r l. a .0 c (omega arith) (omega (arith, w .1)) r l
+  steps-fit kind g cprl b w a = a w
+  steps-fit kind g other b w a = absurd (true≢false (sym b))
 
   pub some-order : byPoints (plan .order) ≡ true → plan .order ≡ other → ⊥
   some-order b e = true≢false (sym b ∙ ap byPoints e)
@@ -184,7 +184,7 @@ module _ (st : State) (table : List ℕ) (k : ℕ) (plan : Plan) (marks : List �
       record {
         ranged = ranged n;
         play = sound-play st table marks (d .sound) prep (range .resno0) (range .resno1) (range .compno0) (range .compno1)
-            (steps-fit (rangeOf st q) o (ap byPoints (sym (is-order n)) ∙ b) (components-in-means st (rangeOf st q) .0 (fine n)) (d .sound .grid k (d .known)))
+            (steps-fit (q .kind) (rangeOf st q) o (ap byPoints (sym (is-order n)) ∙ b) (components-in-means st (rangeOf st q) .0 (fine n)) (d .sound .grid k (d .known)))
             p
             range-deep
             (ranged n .components);

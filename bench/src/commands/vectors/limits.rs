@@ -24,6 +24,10 @@ pub fn cases_beside_wide() -> Vec<Vec<u8>> {
     cases_of(limits::sheets_beside_wide())
 }
 
+pub fn cases_mixed() -> Vec<Vec<u8>> {
+    cases_of(limits::sheets_mixed())
+}
+
 /// A refused sheet with plenty lent or nothing, by turns; an accepted one with what it needs, and some with
 /// too little.
 fn cases_of(sheets: Vec<Vec<u8>>) -> Vec<Vec<u8>> {

@@ -5,6 +5,7 @@ use oracle::sheet::Sheet;
 
 use super::{bytes, lent_table, padded, sample};
 use crate::commands::show::from_words;
+use crate::generate;
 use crate::model::{self, Cursor, Place, Position, Step, Steps};
 use crate::random::Random;
 
@@ -13,6 +14,8 @@ pub const KIND: u32 = 5;
 
 const SEED: u64 = 3000;
 const SEED_BESIDE_WIDE: u64 = 3001;
+const SEED_MIXED: u64 = 3002;
+const SHEETS_MIXED: usize = 12;
 /// Sheets of each order, alone; and sheets with several progressions.
 const SHEETS_OF_AN_ORDER: usize = 5;
 const SHEETS_OF_SEVERAL: usize = 12;
@@ -42,6 +45,15 @@ pub fn cases_beside_wide() -> Vec<Vec<u8>> {
         format!("1 1 0 9 4 1 2 2, {wide} {luma} 4 4 1 1 1 2 2, 4 4 0 1 1 33 2"),
     ];
     cases_of(SEED_BESIDE_WIDE, words.map(|words| model::read(&from_words(&words).unwrap()).unwrap()))
+}
+
+/// Small sheets with progressions of kind 6.
+pub fn cases_mixed() -> Vec<Vec<u8>> {
+    let sheets = (0..)
+        .map(|place| generate::sheets::mixed(&mut Random::at(SEED_MIXED, place)))
+        .filter(|sheet| sheet.progressions.any_mixed() && is_small(sheet))
+        .take(SHEETS_MIXED);
+    cases_of(SEED_MIXED, sheets)
 }
 
 fn cases_of(seed: u64, sheets: impl IntoIterator<Item = Sheet>) -> Vec<Vec<u8>> {

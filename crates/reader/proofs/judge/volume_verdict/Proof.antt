@@ -6,6 +6,9 @@ use Rattle.reader.proofs.judge.volume_verdict.Tie as tie
 word-requires : tie.Need-word-requires
 word-requires c κs = search needs
 
+is-volume-requires : tie.Need-is-volume-requires
+is-volume-requires c κs = search needs
+
 no-more-requires : tie.Need-no-more-requires
 no-more-requires c κs = search needs
 
@@ -32,6 +35,7 @@ volume-verdict-spec =
     tie.close
     (tie.spec
     word-requires
+    is-volume-requires
     no-more-requires
     word-requires-2
     word-requires-3

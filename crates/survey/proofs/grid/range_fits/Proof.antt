@@ -6,9 +6,8 @@ use borrow.Author.Tests.{eq-eqb, ne-eqb}
 use mir.Val.{SFits}
 use mir.Syntax.{w32}
 use mir.Facts.{toZ-ofZ}
-use Rattle.types.specs.Orders.{orderOf}
 use Rattle.packets.specs.Meaning.{components-in-means}
-use Rattle.survey.specs.Passing.{wantOf}
+use Rattle.survey.specs.Passing.{wantFor}
 use Rattle.survey.proofs.grid.range_fits.Statement.{statement}
 use Rattle.survey.proofs.grid.range_fits.Tie as tie
 
@@ -30,8 +29,8 @@ cast-fit-between c = search needs
 cast-fit-between-2 : tie.Need-cast-fit-between-2
 cast-fit-between-2 c = search needs
 
--- the test is of the order's number
-wants : (c : tie.After-want) → c .want .result ≡ wantOf (orderOf (c .before .before .before .args .q .prg))
+-- the test is of what the progression wants
+wants : (c : tie.After-want) → c .want .result ≡ wantFor (c .before .before .before .args .q)
 wants c =
     let fits : SFits w32 (c .before .before .before .args .q .prg) = search needs in
     c .want .ensures ∙ rw (c .before .of .ensures, toZ-ofZ fits)
