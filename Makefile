@@ -6,6 +6,7 @@ PREFIX ?= /usr/local
 C_FLAGS = -std=c11 -Wall -Wextra -Wpedantic -Werror -O2 -Iinclude
 CRATES := crates.txt $(shell find crates -type f ! -path '*/must-fail/*' ! -path '*/mutants/*')
 LISTING = target/bin/listing
+VECTORS = target/bin/vectors
 ARCHIVE = target/staticlib/libhost.a
 NATIVE = target/native/libhost.a target/native/libstepping.a
 
@@ -26,9 +27,10 @@ differential: $(NATIVE)
 	tools/bench differential --sheets 1000000 --bounds 10000000
 	tools/bench --checked differential --sheets 100000 --bounds 1000000
 
-# Random and mutated bytes through the archive, in buffers of many lengths between guard bytes.
-fuzz: $(NATIVE)
+# Random and mutated bytes through the archive, in buffers of many lengths between guard bytes; and eight viewers over one tile, at random and each on a run of its own.
+fuzz: $(NATIVE) $(VECTORS)
 	tools/bench fuzz
+	tools/fuzz-viewers
 
 # Time and instructions of a whole run beside the Rust's, and time of a single step; then sheets with few packets and a huge grid, and a search for more.
 bench: $(NATIVE)
@@ -67,8 +69,8 @@ install: $(ARCHIVE)
 	sed 's|@PREFIX@|$(PREFIX)|' include/bonxigarth.pc.in >"$(DESTDIR)$(PREFIX)/lib/pkgconfig/bonxigarth.pc"
 
 # rt tells by contents what to prove again, and leaves alone what is as it was: hence the touch.
-$(LISTING): $(CRATES)
-	@tools/prove check listing
+target/bin/%: $(CRATES)
+	@tools/prove check $*
 	@touch $@
 
 $(ARCHIVE): $(CRATES)

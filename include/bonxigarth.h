@@ -56,7 +56,8 @@ enum {
  *          It is only read.
  * table    working space, 16 bytes for each resolution: pdx, pdy and the width and height in precincts are written there, component after component
  * marks    working space, a byte for each packet that the tile can have: layers times the largest number of resolutions times components times
- *          the largest number of precincts. A packet that is listed has the byte 1, the others of these 0
+ *          the largest number of precincts. A byte has a bit for each of eight viewers, and the whole run is viewer 0's: a packet that is listed has
+ *          the byte 1, the others of these 0
  * output   a record of four words for each packet, in order: layer, resolution, component, precinct
  *
  * What table, marks and output hold before the call does not matter. Bytes beyond what is needed stay as they are.

@@ -25,6 +25,7 @@ bench bench [--rounds N]
 bench instructions
 bench slow [--limit SECONDS] [--search N] [--seed S]
 bench vectors DIR
+bench traces [--sheets N] [--seed S] DIR
 bench show [--rust] [--again] [--packets N] < WORDS
 bench findings";
 
@@ -39,6 +40,7 @@ fn main() -> ExitCode {
         "instructions" => commands::instructions::run(&mut arguments),
         "once" => commands::instructions::once(&mut arguments),
         "vectors" => commands::vectors::run(&mut arguments),
+        "traces" => commands::vectors::traces(&mut arguments),
         "show" => commands::show::run(&mut arguments),
         "findings" => commands::findings::run(&mut arguments),
         #[cfg(feature = "ours")]

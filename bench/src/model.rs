@@ -20,7 +20,7 @@ pub use lent::Lent;
 pub use positions::{each as each_position, ranges, Points, Position};
 pub use reader::read;
 pub use rectangles::{counted, rectangle, Rectangle};
-pub use steps::{Cursor, Place, Step, Steps};
+pub use steps::{Cursor, Place, Step, Steps, VIEWERS};
 
 const MOST_MARKS: u128 = 65_536;
 

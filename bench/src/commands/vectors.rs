@@ -7,6 +7,7 @@ mod rectangles;
 mod rust;
 mod sample;
 mod steps;
+mod traces;
 
 use std::fs;
 use std::path::Path;
@@ -39,8 +40,21 @@ pub fn run(arguments: &mut Arguments) -> Result<(), String> {
             (steps::KIND, steps::cases_beside_wide()),
             (limits::KIND, limits::cases_mixed()),
             (steps::KIND, steps::cases_mixed()),
+            (traces::KIND, traces::cases()),
         ],
     )
+}
+
+/// A file `model` of traces alone, over sheets that are drawn, and an empty `rust` beside it.
+pub fn traces(arguments: &mut Arguments) -> Result<(), String> {
+    let count = arguments.number("--sheets", 2_000)? as usize;
+    let seed = arguments.number("--seed", 1)?;
+    let folder = arguments.word("a folder")?;
+    arguments.finish()?;
+    println!("seed {seed}");
+    let folder = Path::new(&folder);
+    write(&folder.join("rust"), &[])?;
+    write(&folder.join("model"), &[(traces::KIND, traces::cases_drawn(seed, count))])
 }
 
 /// A file of cases, kind after kind.

@@ -1,4 +1,5 @@
-//! 01, 'Ranges and orders': a step from a cursor, found in the list of its progression's positions.
+//! 01, 'Ranges and orders': a step from a cursor, found in the list of its progression's positions; and 02, P4: eight
+//! viewers, each with a bit of every mark.
 
 use oracle::sheet::Sheet;
 
@@ -9,6 +10,7 @@ use super::reader::read;
 
 #[derive(Clone, Copy, Debug, PartialEq)]
 pub struct Cursor {
+    pub viewer: u32,
     pub progression: u32,
     pub place: Place,
 }
@@ -28,6 +30,14 @@ pub enum Step {
     Ended,
     /// -9
     Unsound,
+}
+
+/// 02, P4: "Eight viewers".
+pub const VIEWERS: u32 = 8;
+
+/// Whether a viewer's bit of a mark is 0.
+fn is_free(mark: u8, viewer: u32) -> bool {
+    mark & 1 << viewer == 0
 }
 
 /// An accepted sheet set up, with the positions of each of its progressions.
@@ -75,12 +85,36 @@ impl Steps {
         self.tile.mark_of(position.packet)
     }
 
+    /// -9 where the marks do not suffice, then -15; else 0, and the viewer's bit is 0 in the marks needed.
+    pub fn join(&self, marks: &mut [u8], viewer: u32) -> i32 {
+        let Some(needed) = marks.get_mut(..self.marks_needed()) else {
+            return -9;
+        };
+        if viewer >= VIEWERS {
+            return -15;
+        }
+        needed.iter_mut().for_each(|mark| *mark &= !(1 << viewer));
+        0
+    }
+
+    /// -9, -15, then -11; else the fresh cursor.
+    pub fn open(&self, marks: &[u8], viewer: u32, progression: u32) -> Result<Cursor, i32> {
+        if marks.len() < self.marks_needed() {
+            return Err(-9);
+        }
+        if viewer >= VIEWERS {
+            return Err(-15);
+        }
+        let there = (progression as usize) < self.positions.len();
+        there.then_some(Cursor { viewer, progression, place: Place::Fresh }).ok_or(-11)
+    }
+
     /// What a step answers over the table that setup writes, and these marks.
     pub fn step(&self, marks: &[u8], cursor: Cursor) -> Step {
         let Some(positions) = self.positions.get(cursor.progression as usize) else {
             return Step::Unsound;
         };
-        if marks.len() < self.marks_needed() {
+        if marks.len() < self.marks_needed() || cursor.viewer >= VIEWERS {
             return Step::Unsound;
         }
         let after = match cursor.place {
@@ -91,7 +125,7 @@ impl Steps {
             },
             Place::Ended => positions.len(),
         };
-        let free = positions[after..].iter().find(|&&position| marks[self.mark_of(position)] == 0);
+        let free = positions[after..].iter().find(|&&position| is_free(marks[self.mark_of(position)], cursor.viewer));
         free.map_or(Step::Ended, |&position| Step::Packet(position))
     }
 }

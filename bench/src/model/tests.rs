@@ -150,7 +150,7 @@ fn stepped(words: &str) -> Vec<Position> {
     let mut marks = vec![0; steps.marks_needed()];
     let mut found = Vec::new();
     for progression in 0..steps.positions.len() as u32 {
-        let mut cursor = Cursor { progression, place: Place::Fresh };
+        let mut cursor = Cursor { viewer: 0, progression, place: Place::Fresh };
         while let Step::Packet(position) = steps.step(&marks, cursor) {
             marks[steps.mark_of(position)] = 1;
             found.push(position);
@@ -181,14 +181,15 @@ fn positions_have_the_point_where_they_are_met() {
 fn a_step_refuses_what_is_not_sound() {
     let steps = Steps::of(read(&from_words(&a_with("5 2")).unwrap()).unwrap()).unwrap();
     let marks = [0; 8];
-    let at = |packet, x, y| Cursor { progression: 0, place: Place::At(Position { packet, x, y }) };
+    let at = |packet, x, y| Cursor { viewer: 0, progression: 0, place: Place::At(Position { packet, x, y }) };
     let step = |cursor| steps.step(&marks, cursor);
     assert!(matches!(step(at([0, 0, 0, 1], 32, 0)), Step::Packet(_)));
     assert_eq!(step(at([1, 1, 0, 1], 32, 0)), Step::Ended);
     assert_eq!(step(at([0, 0, 0, 1], 33, 0)), Step::Unsound);
     assert_eq!(step(at([2, 0, 0, 1], 32, 0)), Step::Unsound);
-    let fresh = Cursor { progression: 0, place: Place::Fresh };
+    let fresh = Cursor { viewer: 0, progression: 0, place: Place::Fresh };
     assert_eq!(step(Cursor { progression: 1, ..fresh }), Step::Unsound);
+    assert_eq!(step(Cursor { viewer: 8, ..fresh }), Step::Unsound);
     assert_eq!(steps.step(&marks[1..], fresh), Step::Unsound);
 }
 

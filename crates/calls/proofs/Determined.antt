@@ -6,11 +6,13 @@ use denote.Ref.{now}
 use denote.Triple.Clauses.{AtExit}
 use Rattle.laws.specs.Determined.{determined-by, OneAnswer}
 use Rattle.types.specs.Answers.{ofOpened, ofLocated}
-use Rattle.packets.specs.Apart.{setup-apart, opened-apart, stepped-apart, located-apart}
+use Rattle.packets.specs.Apart.{setup-apart, joined-apart, opened-apart, stepped-apart, located-apart}
 use Rattle.calls.proofs.setup.setup_for.Kinds as setup-for-kinds
 use Rattle.calls.proofs.setup.setup_for.Reads as setup-for
 use Rattle.calls.proofs.setup.setup.Kinds as setup-kinds
 use Rattle.calls.proofs.setup.setup.Reads as setup
+use Rattle.calls.proofs.join.join.Kinds as join-kinds
+use Rattle.calls.proofs.join.join.Reads as join
 use Rattle.calls.proofs.open.open.Kinds as opening-kinds
 use Rattle.calls.proofs.open.open.Reads as opening
 use Rattle.calls.proofs.step.step.Kinds as step-kinds
@@ -34,6 +36,13 @@ setup-for-determined κs a r s e f p q = setup-apart r s (p .0 ∙ sym (q .0))
 pub setup-for-leaves : (κs : Lfts 3) (a : Dens κs setup-for-kinds.ps) (r s : resT setup-for-kinds.r κs .Denot) (e f : AtExit (endedOf 3 setup-for-kinds.ps setup-for-kinds.r) κs)
     → setup-for.Post κs a r e → setup-for.Post κs a s f → (now (e .1 .0) ≡ now (f .1 .0)) × (now (e .1 .1 .0) ≡ now (f .1 .1 .0))
 setup-for-leaves κs a r s e f p q = (p .1 .0 ∙ sym (q .1 .0), p .1 .1 ∙ sym (q .1 .1))
+
+pub join-determined : OneAnswer join-kinds.ps join-kinds.r join.Post
+join-determined κs a r s e f p q = joined-apart r s (p .0 ∙ sym (q .0))
+
+pub join-leaves : (κs : Lfts 2) (a : Dens κs join-kinds.ps) (r s : resT join-kinds.r κs .Denot) (e f : AtExit (endedOf 2 join-kinds.ps join-kinds.r) κs)
+    → join.Post κs a r e → join.Post κs a s f → now (e .1 .1 .0) ≡ now (f .1 .1 .0)
+join-leaves κs a r s e f p q = p .1 ∙ sym (q .1)
 
 pub open-determined : OneAnswer opening-kinds.ps opening-kinds.r opening.Post
 open-determined κs a r s e f = determined-by ofOpened opened-apart _ r s

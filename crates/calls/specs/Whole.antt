@@ -9,6 +9,7 @@ use lib.IntN.{ℤ, pos}
 use mir.Syntax.{w32}
 use mir.Val.{SFits, ofZ}
 use borrow.Author.Tests.{leb-true, eqb-true, eqb-false, eq-eqb}
+use Rattle.laws.specs.Marks.{zero-free}
 use Rattle.laws.specs.Cases.{split}
 use Rattle.words.specs.Laws.{Bytes}
 use Rattle.packets.specs.Tile.{reported, needed, indexOf}
@@ -126,7 +127,7 @@ module _ (sheet table marks output : List ℕ) where
       unfolding ranOver wholeRunOf
       run-left {n} {mx} {ox} ran =
           left (total (record { count = n; marks = mx; output = ox }))
-          (ap total (ran ∙ all-listed (r .state) t m output done-sound done-clear done-room)
+          (ap total (ran ∙ all-listed (r .state) t m output done-sound (λ i h. zero-free 0 m i (done-clear i h)) done-room)
           ∙ ap (λ (u : Setup). ranOver u output) done-accepted
           ∙ rw (eq-eqb _ _ v) refl)
         where

@@ -1,4 +1,5 @@
 // The public calls: setup, opening, step, the rectangle of a precinct and whole run. Soundness, the test before every call on a state, is a crate of its own.
+pub mod join;
 mod marks;
 pub mod open;
 pub mod output;

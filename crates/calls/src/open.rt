@@ -1,4 +1,4 @@
-// Opening a progression (01, 'Numbers that come back').
+// Opening a progression for a viewer (01, 'Numbers that come back', and 02, P4).
 use soundness::state_sound;
 use types::answer::Opened;
 use types::cursor::Cursor;
@@ -7,15 +7,18 @@ ghost use mathlib.Core.Path.{_≡_};
 ghost use Rattle.types.specs.Answers.{ofOpened};
 ghost use Rattle.packets.specs.Calls.{openOf};
 
-// A fresh cursor of a progression, over the marks as they are.
-pub fn open(st: State, table: &[u8], marks: &[u8], progression: u32) -> Opened
-    ensures { λ r. ⌜ ofOpened r ≡ openOf st (now (table .entry)) (now (marks .entry)) progression ⌝ }
+// A fresh cursor of a viewer in a progression, over the marks as they are.
+pub fn open(st: State, table: &[u8], marks: &[u8], viewer: u32, progression: u32) -> Opened
+    ensures { λ r. ⌜ ofOpened r ≡ openOf st (now (table .entry)) (now (marks .entry)) viewer progression ⌝ }
 {
     if state_sound(st, table, marks) {
-        if progression < st.progressions {
-            return Opened::Cursor(Cursor::fresh(progression));
+        if viewer < Cursor::VIEWERS {
+            if progression < st.progressions {
+                return Opened::Cursor(Cursor::fresh(viewer, progression));
+            }
+            return Opened::NoSuch;
         }
-        return Opened::NoSuch;
+        return Opened::NoViewer;
     }
     Opened::Unsound
 }

@@ -18,16 +18,17 @@ pub fn step(st: State, table: &[u8], marks: &mut [u8], cursor: Cursor) -> Steppe
     if !sound(st, table, marks, cursor) {
         return Stepped::Unsound(cursor);
     }
-    let k = cursor.progression;
-    let place = cursor.place;
-    match take(st, table, marks, k, place) {
+    let viewer = cursor.viewer;
+    let progression = cursor.progression;
+    match take(st, table, marks, cursor) {
         Found::At(p) => Stepped::Packet(
             p,
             Cursor {
-                progression: k,
+                viewer,
+                progression,
                 place: Place::At(p),
             },
         ),
-        Found::Nothing => Stepped::Ended(Cursor::ended(k)),
+        Found::Nothing => Stepped::Ended(Cursor::ended(viewer, progression)),
     }
 }

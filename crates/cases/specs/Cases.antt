@@ -16,13 +16,14 @@ use Rattle.laws.specs.Below.{allBelow, sumBelow, maxBelow, minBelow}
 use Rattle.laws.specs.Least.{least}
 use Rattle.laws.specs.Nest.{nest}
 use Rattle.laws.specs.Runs.{seek}
-use Rattle.laws.specs.Marks.{freeByte, markedByte, freeAt, markAt}
+use Rattle.laws.specs.Marks.{freeByte, markedByte, clearedByte, freeAt, markAt, clearedTo}
 use Rattle.laws.specs.AllRuns.{has, unseen, joined, dedupe}
 use Rattle.words.specs.Words.{wordAt, wordsBytes}
 use Rattle.geometry.specs.Precinct.{across, cellFrom, cellTo}
 use Rattle.geometry.specs.Line.{boundOf, count, hitAt, columnOf}
 use Rattle.geometry.specs.declared.tile.Area.{Area}
 use Rattle.types.specs.State.{freshCursor, origin}
+use Rattle.types.specs.Viewers.{isViewer}
 use Rattle.packets.specs.Sheet.{recordVerdict, dueAfter, readFrom, readVerdict, componentRecord, progressionAt, fieldsOf}
 use Rattle.packets.specs.Tile.{Sheet, width, height, resOf, rectangle, maxPrec, maxRes, dxMin, dyMin, reported, needed, indexOf, entriesBefore, tableBytes}
 use Rattle.types.specs.Orders.{orderOf, rangeOf}
@@ -33,7 +34,8 @@ use Rattle.packets.specs.Positions.{met, numberAt, positionsIn, hasPositions}
 use Rattle.packets.specs.Table.{tableOf, sheetIn, sheetAt}
 use Rattle.packets.specs.Sound.{placeSound, componentsSound, progressionsSound, entrySound, tableSound, reportsSound, sheetSound, stateSound, isIn, cursorSound, sound}
 use Rattle.packets.specs.Same.{samePosition, same, decided}
-use Rattle.packets.specs.Calls.{Setup, Step, setupVerdict, setupOf, rectangleOf, refusal, listed, after, stepBy, stepOf}
+use Rattle.packets.specs.Calls.{Setup, Step, setupVerdict, setupOf, joinOf, openOf, rectangleOf, refusal, listed, after, stepBy, stepOf}
+use Rattle.packets.specs.Traces.{Call, joins, opens, steps, Reply, joined as joinSaid, opened, stepped, Trace, traced}
 use Rattle.packets.specs.Text.{textOf, digitsUpTo}
 use Rattle.packets.specs.Strided.{strided, pointsFor}
 use Rattle.packets.specs.InPlay.{nextX, nextY, nextInPlay, in-play-listed}
@@ -252,7 +254,7 @@ answering go marks c (n ∷ ns) rest =
 -- so for progression k and those after it, in turn
 abbrev inTurn : (List ℕ → Cursor → Step) → List ℕ → ℕ → List (List ℕ) → Bool
 inTurn go marks k [] = true
-inTurn go marks k (ns ∷ nss) = answering go marks (freshCursor k) ns (λ m. inTurn go m (k + 1) nss)
+inTurn go marks k (ns ∷ nss) = answering go marks (freshCursor 0 k) ns (λ m. inTurn go m (k + 1) nss)
 
 -- a refusal says no more
 abbrev ifAccepted : ℤ → Bool → Bool
@@ -290,8 +292,9 @@ module _ (positions : Sheet → Range → Order → List Position) where
   stepVia : State → List ℕ → List ℕ → Cursor → Step
   stepVia st table marks c =
       let ps : List Position = positionsBy st table (c .progression) in
-      let found = stepBy st marks (c .progression) (seek (indexOf st) marks (after (c .place) ps)) in
-      cond (stateSound st table marks && (ltb (c .progression) (st .progressions) && placeSound (c .place) ps)) found
+      let v = c .viewer in
+      let found = stepBy st marks v (c .progression) (seek v (indexOf st) marks (after (c .place) ps)) in
+      cond (stateSound st table marks && (isViewer v && (ltb (c .progression) (st .progressions) && placeSound (c .place) ps))) found
       (record { said = record { number = refusal 9; packet = none; cursor = c }; marks = marks })
 
 -- positions by the next hit in play
@@ -371,6 +374,49 @@ allSpots (q ∷ qs) = spotHolds q && allSpots qs
 pub spots-hold : allSpots spots ≡ true
 unfolding computed spots spotHolds setupOf rectangleOf rectangle cellFrom cellTo sheetSound componentsSound progressionsSound tableSound entrySound reportsSound
 spots-hold = refl
+
+-- EIGHT VIEWERS (02, P4): sheet A's packets by LRCP, in one layer; calls one after the other over setup's state and table, each with the number that it answers
+abbrev byLayers : List (List ℕ)
+byLayers = tileA ((4 ∷ 0 ∷ 0 ∷ 0 ∷ 1 ∷ 2 ∷ 1 ∷ []) ∷ [])
+
+abbrev numberOf : Reply → ℤ
+numberOf (joinSaid z) = z
+numberOf (opened o) = o .number
+numberOf (stepped s) = s .number
+
+unfoldable pub meetings : List (Call × ℤ)
+meetings =
+    -- viewer 3 opens its progression, and there is no other; viewers end at 7
+    (opens 3 0, pos 0)
+    ∷ (opens 3 1, refusal 11)
+    ∷ (opens 8 1, refusal 15)
+    ∷ (joins 8, refusal 15)
+    ∷ (steps (freshCursor 8 0), refusal 9)
+    -- viewers 3 and 0 are each given the first packet, and viewer 3 the second
+    ∷ (steps (freshCursor 3 0), pos 1)
+    ∷ (steps (freshCursor 0 0), pos 1)
+    ∷ (steps (freshCursor 3 0), pos 1)
+    -- viewer 3 joins, and is given the first again
+    ∷ (joins 3, pos 0)
+    ∷ (steps (freshCursor 3 0), pos 1)
+    ∷ []
+
+-- the first packet is marked for viewers 0 and 3, the others for nobody
+abbrev marksLeft : List ℕ
+marksLeft = 9 ∷ replicate 7 0
+
+unfoldable pub meetingsHold : Bool
+meetingsHold =
+    let b : List ℕ = sheetBytes byLayers in
+    let st : State = reported (sheetIn b) in
+    let u : Setup = setupOf b (replicate (tableBytes st) 255) (replicate (needed st) 255) in
+    let t : Trace = traced (u .said .state) (u .table) (u .marks) (map (λ (m : Call × ℤ). m .0) meetings) in
+    sameBy sameNumber (map (λ (d : Call × Reply). numberOf (d .1)) (t .dealt)) (map (λ (m : Call × ℤ). m .1) meetings) && sameBy eqb (t .marks) marksLeft
+
+-- THEOREM: they are answered so
+pub meetings-hold : meetingsHold ≡ true
+unfolding computed meetings meetingsHold traced joinOf openOf stepOf setupOf sound cursorSound sheetSound stateSound isIn componentsSound progressionsSound tableSound entrySound reportsSound same decided behind freeByte markedByte clearedByte freeAt markAt clearedTo seek positionsIn
+meetings-hold = refl
 
 -- THE TEXT. A line of one-digit numbers
 abbrev pub shown : List ℕ → List ℕ

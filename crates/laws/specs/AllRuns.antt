@@ -11,7 +11,7 @@ use borrow.Author.Tests.{eq-eqb, ne-eqb, eqb-true, eqb-false, not-true, not-fals
 use Rattle.laws.specs.Cases.{split}
 use Rattle.laws.specs.Gather.{gather}
 use Rattle.laws.specs.Lists.{NoRepeats, none, more, Rearranged, rearranged-in, rearranged-from, rearranged-by}
-use Rattle.laws.specs.Marks.{marked-one, freeAt, markedByte, zero-free, mark-length, taken-self, free-other}
+use Rattle.laws.specs.Marks.{freeAt, markedByte, mark-length, taken-self, free-other}
 use Rattle.laws.specs.Runs.{fresh, Ran, run, run-lists, free, mark, unlisted, unlisted-free, unlisted-taken, marked}
 use Rattle.laws.specs.Listing.{indexes, Fits, length-marked, marked-in, marked-out, listed-of, listed-was, listed-once, unlisted-append, marked-append, same-listed, same-marks, unlisted-within}
 use Rattle.laws.specs.Gathered.{gathered, gathered-from}
@@ -57,39 +57,40 @@ module _ {P : Type 0} (ix : P → ℕ) where
     unfolding unseen
     unseen-new e = rw (unseen, e)
 
+module _ {P : Type 0} (v : ℕ) (ix : P → ℕ) where
   -- below n, the marks that are free are those of the indexes not seen
   abbrev Agrees : ℕ → List ℕ → List ℕ → Type 0
-  Agrees n m seen = (i : ℕ) → i < n → freeAt m i ≡ not (has i seen)
+  Agrees n m seen = (i : ℕ) → i < n → freeAt v m i ≡ not (has i seen)
 
-  agrees-mark : (n : ℕ) (m seen : List ℕ) (p : P) → n ≤ length m → Agrees n m seen → Agrees n (mark ix m p) (ix p ∷ seen)
+  agrees-mark : (n : ℕ) (m seen : List ℕ) (p : P) → n ≤ length m → Agrees n m seen → Agrees n (mark v ix m p) (ix p ∷ seen)
   agrees-mark n m seen p h a i k =
       split (eqb i (ix p))
       (λ t.
       let e : i ≡ ix p = eqb-true i (ix p) t in
       let g : ix p < length m = omega arith in
-      rw (has-self i (ix p) seen t, e) (taken-self m (ix p) g))
-      (λ t. rw (has-other i (ix p) seen t) (free-other m (ix p) i (eqb-false i (ix p) t) ∙ a i k))
+      rw (has-self i (ix p) seen t, e) (taken-self v m (ix p) g))
+      (λ t. rw (has-other i (ix p) seen t) (free-other v m (ix p) i (eqb-false i (ix p) t) ∙ a i k))
 
   unlisted-unseen : (n : ℕ) (m seen : List ℕ) (ps : List P) → n ≤ length m → Agrees n m seen
-      → ((i : ℕ) → In i (indexes ix ps) → i < n) → unlisted ix m ps ≡ unseen seen ps
+      → ((i : ℕ) → In i (indexes ix ps) → i < n) → unlisted v ix m ps ≡ unseen ix seen ps
   unfolding unlisted unseen
   unlisted-unseen n m seen [] h a f = refl
   unlisted-unseen n m seen (p ∷ ps) h a f =
-      split (free ix m p)
+      split (free v ix m p)
       (λ t.
-      unlisted-free ix m p ps t
-      ∙ ap (λ (l : List P). p ∷ l) (unlisted-unseen n (mark ix m p) (ix p ∷ seen) ps (rw (mark-length m (ix p)) h) (agrees-mark n m seen p h a) (λ i q. f i (there q)))
-      ∙ sym (unseen-new seen p ps (not-true _ (sym (a (ix p) (f (ix p) (here refl))) ∙ t))))
+      unlisted-free v ix m p ps t
+      ∙ ap (λ (l : List P). p ∷ l) (unlisted-unseen n (mark v ix m p) (ix p ∷ seen) ps (rw (mark-length v m (ix p)) h) (agrees-mark n m seen p h a) (λ i q. f i (there q)))
+      ∙ sym (unseen-new ix seen p ps (not-true _ (sym (a (ix p) (f (ix p) (here refl))) ∙ t))))
       (λ t.
-      unlisted-taken ix m p ps t
+      unlisted-taken v ix m p ps t
       ∙ unlisted-unseen n m seen ps h a (λ i q. f i (there q))
-      ∙ sym (unseen-old seen p ps (not-false _ (sym (a (ix p) (f (ix p) (here refl))) ∙ t))))
+      ∙ sym (unseen-old ix seen p ps (not-false _ (sym (a (ix p) (f (ix p) (here refl))) ∙ t))))
 
-  -- from marks that are 0, what is unlisted is the list with what has an index already listed left out
-  pub unlisted-dedupe : (n : ℕ) (m : List ℕ) (ps : List P) → n ≤ length m → ((i : ℕ) → i < n → getD m i 0 ≡ 0)
-      → ((i : ℕ) → In i (indexes ix ps) → i < n) → unlisted ix m ps ≡ dedupe ps
+  -- from marks that are free, what is unlisted is the list with what has an index already listed left out
+  pub unlisted-dedupe : (n : ℕ) (m : List ℕ) (ps : List P) → n ≤ length m → ((i : ℕ) → i < n → freeAt v m i ≡ true)
+      → ((i : ℕ) → In i (indexes ix ps) → i < n) → unlisted v ix m ps ≡ dedupe ix ps
   unfolding has
-  unlisted-dedupe n m ps h z f = unlisted-unseen n m [] ps h (λ i k. zero-free m i (z i k)) f
+  unlisted-dedupe n m ps h z f = unlisted-unseen n m [] ps h z f
 
 -- how often i occurs
 unfoldable pub count : ℕ → List ℕ → ℕ
@@ -123,38 +124,39 @@ module _ {P : Type 0} (ix : P → ℕ) where
       let k : ix (r .0) < n = f (s .0) (s .1) (r .0) (s .2) in
       rw (r .2) at k
 
+module _ {P : Type 0} (v : ℕ) (ix : P → ℕ) where
   -- what all the runs list and leave, by what is unlisted
   abbrev pub listing : List (List P) → List ℕ → Listing P
-  listing pss m = record { packets = unlisted ix m (joined pss); marks = marked ix m (unlisted ix m (joined pss)) }
+  listing pss m = record { packets = unlisted v ix m (joined pss); marks = marked v ix m (unlisted v ix m (joined pss)) }
 
-  -- what is right of all runs from marks m, which are 0 where they are needed
+  -- what is right of all runs from marks m, which are free where they are needed
   pub record Complete (pss : List (List P)) (m : List ℕ) (r : Listing P) : Type 0 where
     pub order : r .packets ≡ dedupe ix (joined pss)
-    pub set-marks : (i : ℕ) → In i (indexes ix (r .packets)) → getD (r .marks) i 0 ≡ 1
+    pub set-marks : (i : ℕ) → In i (indexes ix (r .packets)) → getD (r .marks) i 0 ≡ markedByte v (getD m i 0)
     pub other-marks : (i : ℕ) → (In i (indexes ix (r .packets)) → ⊥) → getD (r .marks) i 0 ≡ getD m i 0
     pub size : length (r .marks) ≡ length m
     pub at-most-once : NoRepeats (indexes ix (r .packets))
     pub every : (ps : List P) → In ps pss → (p : P) → In p ps → count (ix p) (indexes ix (r .packets)) ≡ 1
 
-  module _ (pss : List (List P)) (m : List ℕ) (n : ℕ) (enough : n ≤ length m) (below : Below n pss) where
+  module _ (pss : List (List P)) (m : List ℕ) (n : ℕ) (enough : n ≤ length m) (below : Below ix n pss) where
     fits : Fits ix m (joined pss)
-    fits i q = omega (arith, joined-below n pss below i q)
+    fits i q = omega (arith, joined-below ix n pss below i q)
 
-    listing-complete : ((i : ℕ) → i < n → getD m i 0 ≡ 0) → Complete pss m (listing pss m)
+    listing-complete : ((i : ℕ) → i < n → freeAt v m i ≡ true) → Complete pss m (listing pss m)
     listing-complete z =
         record {
-          order = unlisted-dedupe ix n m (joined pss) enough z (joined-below n pss below);
+          order = unlisted-dedupe v ix n m (joined pss) enough z (joined-below ix n pss below);
           set-marks = λ i q.
-              let w = listed-was ix m (joined pss) fits i q .member in
-              marked-in ix m (unlisted ix m (joined pss)) i (fits i w) q ∙ ap markedByte (z i (joined-below n pss below i w)) ∙ marked-one;
-          other-marks = λ i q. marked-out ix m (unlisted ix m (joined pss)) i q;
-          size = length-marked ix m (unlisted ix m (joined pss));
-          at-most-once = listed-once ix m (joined pss) fits;
+              marked-in v ix m (unlisted v ix m (joined pss)) i (fits i (listed-was v ix m (joined pss) fits i q .member)) q;
+          other-marks = λ i q. marked-out v ix m (unlisted v ix m (joined pss)) i q;
+          size = length-marked v ix m (unlisted v ix m (joined pss));
+          at-most-once = listed-once v ix m (joined pss) fits;
           every = λ ps q p h.
-              count-one (ix p) (listed-once ix m (joined pss) fits)
-              (listed-of ix m (joined pss) (ix p) (zero-free m (ix p) (z (ix p) (below ps q p h))) (in-map ix (gathered (λ l. l) q h)));
+              count-one (ix p) (listed-once v ix m (joined pss) fits)
+              (listed-of v ix m (joined pss) (ix p) (z (ix p) (below ps q p h)) (in-map ix (gathered (λ l. l) q h)));
         }
 
+module _ {P : Type 0} (ix : P → ℕ) where
   -- two orders of the same progressions
   module _ (pss qss : List (List P)) (w : Rearranged pss qss) where
     joined-in : (p : P) → In p (joined pss) → In p (joined qss)
@@ -166,12 +168,12 @@ module _ {P : Type 0} (ix : P → ℕ) where
   indexes-in : (ps qs : List P) → ((p : P) → In p ps → In p qs) → (i : ℕ) → In i (indexes ix ps) → In i (indexes ix qs)
   indexes-in ps qs h i q = let r = in-of-map ix ps q in in-cast (sym (r .2)) (in-map ix (h (r .0) (r .1)))
 
-module _ {P : Type 0} (same : Discrete P) (ix : P → ℕ) where
+module _ {P : Type 0} (same : Discrete P) (v : ℕ) (ix : P → ℕ) where
   -- all the progressions in turn, each run from a fresh cursor to its end, over the marks as the one before has left them
   unfoldable pub runAll : List (List P) → List ℕ → Listing P
   runAll [] m = record { packets = []; marks = m }
   runAll (ps ∷ pss) m =
-      let r = run same ix (length ps + 1) ps m fresh in
+      let r = run same v ix (length ps + 1) ps m fresh in
       let s = runAll pss (r .marks) in
       record { packets = r .packets ++ s .packets; marks = s .marks }
 
@@ -179,23 +181,23 @@ module _ {P : Type 0} (same : Discrete P) (ix : P → ℕ) where
   NoneRepeats pss = (ps : List P) → In ps pss → NoRepeats ps
 
   -- for any marks: what is unlisted of the joined progressions
-  pub run-all : (pss : List (List P)) (m : List ℕ) → NoneRepeats pss → runAll pss m ≡ listing ix pss m
+  pub run-all : (pss : List (List P)) (m : List ℕ) → NoneRepeats pss → runAll pss m ≡ listing v ix pss m
   unfolding runAll gather unlisted marked
   run-all [] m u = refl
   run-all (ps ∷ pss) m u =
-      let v : List P = unlisted ix m ps in
-      let k : List ℕ = marked ix m v in
+      let l : List P = unlisted v ix m ps in
+      let k : List ℕ = marked v ix m l in
       ap
       (λ (r : Ran P). let s = runAll pss (r .marks) in record { packets = r .packets ++ s .packets; marks = s .marks })
-      (run-lists same ix ps (u ps (here refl)) (length ps + 1) m (omega arith))
-      ∙ ap (λ (s : Listing P). record { packets = v ++ s .packets; marks = s .marks }) (run-all pss k (λ qs q. u qs (there q)))
-      ∙ ap (λ (l : List ℕ). record { packets = v ++ unlisted ix k (joined pss); marks = l }) (sym (marked-append ix m v (unlisted ix k (joined pss))))
-      ∙ ap (λ (l : List P). record { packets = l; marks = marked ix m l }) (sym (unlisted-append ix m ps (joined pss)))
+      (run-lists same v ix ps (u ps (here refl)) (length ps + 1) m (omega arith))
+      ∙ ap (λ (s : Listing P). record { packets = l ++ s .packets; marks = s .marks }) (run-all pss k (λ qs q. u qs (there q)))
+      ∙ ap (λ (n : List ℕ). record { packets = l ++ unlisted v ix k (joined pss); marks = n }) (sym (marked-append v ix m l (unlisted v ix k (joined pss))))
+      ∙ ap (λ (l : List P). record { packets = l; marks = marked v ix m l }) (sym (unlisted-append v ix m ps (joined pss)))
 
-  -- R2: all progressions from marks that are 0 where they are needed
+  -- R2: all progressions from marks that are free where they are needed
   pub run-all-complete : (pss : List (List P)) (m : List ℕ) (n : ℕ) → NoneRepeats pss
-      → n ≤ length m → Below ix n pss → ((i : ℕ) → i < n → getD m i 0 ≡ 0) → Complete ix pss m (runAll pss m)
-  run-all-complete pss m n u h b z = rw (run-all pss m u) (listing-complete ix pss m n h b z)
+      → n ≤ length m → Below ix n pss → ((i : ℕ) → i < n → freeAt v m i ≡ true) → Complete v ix pss m (runAll pss m)
+  run-all-complete pss m n u h b z = rw (run-all pss m u) (listing-complete v ix pss m n h b z)
 
   -- R3: the order of the progressions does not matter, whatever the marks
   pub record Alike (r s : Listing P) : Type 0 where
@@ -207,8 +209,8 @@ module _ {P : Type 0} (same : Discrete P) (ix : P → ℕ) where
   order-free pss qss m w u b =
       rw (run-all pss m u, run-all qss m (λ ps q. u ps (rearranged-from w q)))
       (record {
-        marks = same-marks ix m (joined pss) (joined qss) f to from;
-        rearranged = same-listed ix m (joined pss) (joined qss) f to from;
+        marks = same-marks v ix m (joined pss) (joined qss) f to from;
+        rearranged = same-listed v ix m (joined pss) (joined qss) f to from;
       })
     where
       f : Fits ix m (joined pss)
@@ -231,4 +233,4 @@ module _ {P : Type 0} (same : Discrete P) (ix : P → ℕ) where
       (order-free pss qss m w u b .rearranged)
     where
       listed : (rss : List (List P)) → NoneRepeats rss → (p : P) → In p (runAll rss m .packets) → In p (joined rss)
-      listed rss v p i = unlisted-within ix m (joined rss) p (rw (run-all rss m v) at i)
+      listed rss u p i = unlisted-within v ix m (joined rss) p (rw (run-all rss m u) at i)

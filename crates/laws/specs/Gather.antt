@@ -1,7 +1,7 @@
 -- Lists gathered from the elements of another list, by a pass over all of them or by one that resumes inside the first. Assumes nothing.
 use mathlib.Core.Path.{_≡_, refl}
 use mathlib.Core.Bool.{Bool, true, false, _&&_}
-use mathlib.Core.List.{List, [], _∷_, _++_, map, append-assoc}
+use mathlib.Core.List.{List, [], _∷_, _++_, map, map-append, append-assoc}
 
 module _ {A B : Type 0} where
   -- what f gives of each element, one after the other
@@ -34,10 +34,13 @@ module _ {A : Type 0} where
   abbrev pub keep : (A → Bool) → List A → List A
   keep p = gather (λ a. only (p a) a)
 
-module _ {A B : Type 0} where
-  pub map-append : (f : A → B) (xs ys : List A) → map f (xs ++ ys) ≡ map f xs ++ map f ys
-  map-append f [] ys = refl
-  map-append f (x ∷ xs) ys = rw (map-append f xs ys)
+  pub keep-yes : (p : A → Bool) (a : A) (l : List A) → p a ≡ true → keep p (a ∷ l) ≡ a ∷ keep p l
+  unfolding gather
+  keep-yes p a l e = rw e
+
+  pub keep-no : (p : A → Bool) (a : A) (l : List A) → p a ≡ false → keep p (a ∷ l) ≡ keep p l
+  unfolding gather
+  keep-no p a l e = rw e
 
 module _ {A B C : Type 0} where
   pub map-map : (f : B → C) (g : A → B) (xs : List A) → map f (map g xs) ≡ map (λ x. f (g x)) xs

@@ -21,166 +21,167 @@ module _ {P : Type 0} (ix : P → ℕ) where
   abbrev pub Fits : List ℕ → List P → Type 0
   Fits m ps = (i : ℕ) → In i (indexes ps) → i < length m
 
-  fits-mark : (m : List ℕ) (p : P) (ps : List P) → Fits m (p ∷ ps) → Fits (mark ix m p) ps
-  fits-mark m p ps f i h = rw (mark-length m (ix p)) (f i (there h))
+module _ {P : Type 0} (v : ℕ) (ix : P → ℕ) where
+  fits-mark : (m : List ℕ) (p : P) (ps : List P) → Fits ix m (p ∷ ps) → Fits ix (mark v ix m p) ps
+  fits-mark m p ps f i h = rw (mark-length v m (ix p)) (f i (there h))
 
   -- marking changes a byte to the marked one, or not at all
-  marks-byte : (m : List ℕ) (p : P) (i : ℕ) → i < length m → i ≡ ix p → getD (mark ix m p) i 0 ≡ markedByte (getD m i 0)
-  marks-byte m p i h e = rw e (mark-self m (ix p) (rw e at h))
+  marks-byte : (m : List ℕ) (p : P) (i : ℕ) → i < length m → i ≡ ix p → getD (mark v ix m p) i 0 ≡ markedByte v (getD m i 0)
+  marks-byte m p i h e = rw e (mark-self v m (ix p) (rw e at h))
 
   -- a byte once marked stays
-  mark-kept : (m : List ℕ) (p : P) (i b : ℕ) → i < length m → getD m i 0 ≡ markedByte b → getD (mark ix m p) i 0 ≡ markedByte b
+  mark-kept : (m : List ℕ) (p : P) (i b : ℕ) → i < length m → getD m i 0 ≡ markedByte v b → getD (mark v ix m p) i 0 ≡ markedByte v b
   mark-kept m p i b h e = kept (ℕ-discrete i (ix p))
     where
-      kept : Dec (i ≡ ix p) → getD (mark ix m p) i 0 ≡ markedByte b
-      kept (yes q) = marks-byte m p i h q ∙ ap markedByte e ∙ marked-again b
-      kept (no n) = mark-other m (ix p) i n ∙ e
+      kept : Dec (i ≡ ix p) → getD (mark v ix m p) i 0 ≡ markedByte v b
+      kept (yes q) = marks-byte m p i h q ∙ ap (markedByte v) e ∙ marked-again v b
+      kept (no n) = mark-other v m (ix p) i n ∙ e
 
-  pub length-marked : (m : List ℕ) (ps : List P) → length (marked ix m ps) ≡ length m
+  pub length-marked : (m : List ℕ) (ps : List P) → length (marked v ix m ps) ≡ length m
   unfolding marked
   length-marked m [] = refl
-  length-marked m (p ∷ ps) = length-marked (mark ix m p) ps ∙ mark-length m (ix p)
+  length-marked m (p ∷ ps) = length-marked (mark v ix m p) ps ∙ mark-length v m (ix p)
 
-  marked-kept : (m : List ℕ) (ps : List P) (i b : ℕ) → i < length m → getD m i 0 ≡ markedByte b → getD (marked ix m ps) i 0 ≡ markedByte b
+  marked-kept : (m : List ℕ) (ps : List P) (i b : ℕ) → i < length m → getD m i 0 ≡ markedByte v b → getD (marked v ix m ps) i 0 ≡ markedByte v b
   unfolding marked
   marked-kept m [] i b h e = e
-  marked-kept m (p ∷ ps) i b h e = marked-kept (mark ix m p) ps i b (rw (mark-length m (ix p)) h) (mark-kept m p i b h e)
+  marked-kept m (p ∷ ps) i b h e = marked-kept (mark v ix m p) ps i b (rw (mark-length v m (ix p)) h) (mark-kept m p i b h e)
 
-  -- the marks with those of ps set: the byte marked at the indexes of ps, and as before elsewhere
-  pub marked-in : (m : List ℕ) (ps : List P) (i : ℕ) → i < length m → In i (indexes ps) → getD (marked ix m ps) i 0 ≡ markedByte (getD m i 0)
+  -- the marks with those of ps set: the byte marked at the indexes ix of ps, and as before elsewhere
+  pub marked-in : (m : List ℕ) (ps : List P) (i : ℕ) → i < length m → In i (indexes ix ps) → getD (marked v ix m ps) i 0 ≡ markedByte v (getD m i 0)
   unfolding marked
   marked-in m [] i h q = absurd (not-in-nil q)
   marked-in m (p ∷ ps) i h q =
-      let h' : i < length (mark ix m p) = rw (mark-length m (ix p)) h in
-      now h' (ℕ-discrete i (ix p)) (marked-in (mark ix m p) ps i h')
+      let h' : i < length (mark v ix m p) = rw (mark-length v m (ix p)) h in
+      now h' (ℕ-discrete i (ix p)) (marked-in (mark v ix m p) ps i h')
     where
-      now : i < length (mark ix m p) → Dec (i ≡ ix p) → (In i (indexes ps) → getD (marked ix (mark ix m p) ps) i 0 ≡ markedByte (getD (mark ix m p) i 0))
-          → getD (marked ix (mark ix m p) ps) i 0 ≡ markedByte (getD m i 0)
-      now h' (yes e) go = marked-kept (mark ix m p) ps i (getD m i 0) h' (marks-byte m p i h e)
-      now h' (no n) go = go (⊎-elim (λ e. absurd (n e)) (λ j. j) (in-cons q)) ∙ ap markedByte (mark-other m (ix p) i n)
+      now : i < length (mark v ix m p) → Dec (i ≡ ix p) → (In i (indexes ix ps) → getD (marked v ix (mark v ix m p) ps) i 0 ≡ markedByte v (getD (mark v ix m p) i 0))
+          → getD (marked v ix (mark v ix m p) ps) i 0 ≡ markedByte v (getD m i 0)
+      now h' (yes e) go = marked-kept (mark v ix m p) ps i (getD m i 0) h' (marks-byte m p i h e)
+      now h' (no n) go = go (⊎-elim (λ e. absurd (n e)) (λ j. j) (in-cons q)) ∙ ap (markedByte v) (mark-other v m (ix p) i n)
 
-  pub marked-out : (m : List ℕ) (ps : List P) (i : ℕ) → (In i (indexes ps) → ⊥) → getD (marked ix m ps) i 0 ≡ getD m i 0
+  pub marked-out : (m : List ℕ) (ps : List P) (i : ℕ) → (In i (indexes ix ps) → ⊥) → getD (marked v ix m ps) i 0 ≡ getD m i 0
   unfolding marked
   marked-out m [] i n = refl
   marked-out m (p ∷ ps) i n =
-      marked-out (mark ix m p) ps i (λ q. n (there q)) ∙ mark-other m (ix p) i (λ e. n (here e))
+      marked-out (mark v ix m p) ps i (λ q. n (there q)) ∙ mark-other v m (ix p) i (λ e. n (here e))
 
   -- an index is listed where its mark is free, and only there
-  pub listed-of : (m : List ℕ) (ps : List P) (i : ℕ) → freeAt m i ≡ true → In i (indexes ps) → In i (indexes (unlisted ix m ps))
+  pub listed-of : (m : List ℕ) (ps : List P) (i : ℕ) → freeAt v m i ≡ true → In i (indexes ix ps) → In i (indexes ix (unlisted v ix m ps))
   listed-of m [] i z q = absurd (not-in-nil q)
   listed-of m (p ∷ ps) i z q =
-      split (free ix m p)
-      (λ t. rw (unlisted-free ix m p ps t) (now (ℕ-discrete i (ix p)) (listed-of (mark ix m p) ps i)))
+      split (free v ix m p)
+      (λ t. rw (unlisted-free v ix m p ps t) (now (ℕ-discrete i (ix p)) (listed-of (mark v ix m p) ps i)))
       (λ t.
-      rw (unlisted-taken ix m p ps t)
+      rw (unlisted-taken v ix m p ps t)
       (⊎-elim (λ e. absurd (true≢false (sym (rw e at z) ∙ t))) (listed-of m ps i z) (in-cons q)))
     where
-      now : Dec (i ≡ ix p) → (freeAt (mark ix m p) i ≡ true → In i (indexes ps) → In i (indexes (unlisted ix (mark ix m p) ps)))
-          → In i (ix p ∷ indexes (unlisted ix (mark ix m p) ps))
+      now : Dec (i ≡ ix p) → (freeAt v (mark v ix m p) i ≡ true → In i (indexes ix ps) → In i (indexes ix (unlisted v ix (mark v ix m p) ps)))
+          → In i (ix p ∷ indexes ix (unlisted v ix (mark v ix m p) ps))
       now (yes e) go = here e
       now (no n) go =
-          there (go (free-other m (ix p) i n ∙ z) (⊎-elim (λ e. absurd (n e)) (λ j. j) (in-cons q)))
+          there (go (free-other v m (ix p) i n ∙ z) (⊎-elim (λ e. absurd (n e)) (λ j. j) (in-cons q)))
 
   pub record Was (m : List ℕ) (ps : List P) (i : ℕ) : Type 0 where
-    pub is-free : freeAt m i ≡ true
-    pub member : In i (indexes ps)
+    pub is-free : freeAt v m i ≡ true
+    pub member : In i (indexes ix ps)
 
-  pub listed-was : (m : List ℕ) (ps : List P) → Fits m ps → (i : ℕ) → In i (indexes (unlisted ix m ps)) → Was m ps i
+  pub listed-was : (m : List ℕ) (ps : List P) → Fits ix m ps → (i : ℕ) → In i (indexes ix (unlisted v ix m ps)) → Was m ps i
   unfolding unlisted
   listed-was m [] f i q = absurd (not-in-nil q)
   listed-was m (p ∷ ps) f i q =
-      split (free ix m p)
+      split (free v ix m p)
       (λ t.
-      let q' : In i (ix p ∷ indexes (unlisted ix (mark ix m p) ps)) = rw (unlisted-free ix m p ps t) at q in
+      let q' : In i (ix p ∷ indexes ix (unlisted v ix (mark v ix m p) ps)) = rw (unlisted-free v ix m p ps t) at q in
       ⊎-elim
       (λ e. record { is-free = rw e t; member = here e })
-      (λ j. old (listed-was (mark ix m p) ps (fits-mark m p ps f) i j))
+      (λ j. old (listed-was (mark v ix m p) ps (fits-mark m p ps f) i j))
       (in-cons q'))
-      (λ t. later (listed-was m ps (λ k z. f k (there z)) i (rw (unlisted-taken ix m p ps t) at q)))
+      (λ t. later (listed-was m ps (λ k z. f k (there z)) i (rw (unlisted-taken v ix m p ps t) at q)))
     where
       later : Was m ps i → Was m (p ∷ ps) i
       later w = record { is-free = w .is-free; member = there (w .member) }
 
-      old : Was (mark ix m p) ps i → Was m (p ∷ ps) i
+      old : Was (mark v ix m p) ps i → Was m (p ∷ ps) i
       old w = record { is-free = same-mark (ℕ-discrete i (ix p)); member = there (w .member) }
         where
-          same-mark : Dec (i ≡ ix p) → freeAt m i ≡ true
-          same-mark (yes e) = absurd (true≢false (sym (w .is-free) ∙ rw e (taken-self m (ix p) (rw e at (f i (there (w .member)))))))
-          same-mark (no n) = sym (free-other m (ix p) i n) ∙ w .is-free
+          same-mark : Dec (i ≡ ix p) → freeAt v m i ≡ true
+          same-mark (yes e) = absurd (true≢false (sym (w .is-free) ∙ rw e (taken-self v m (ix p) (rw e at (f i (there (w .member)))))))
+          same-mark (no n) = sym (free-other v m (ix p) i n) ∙ w .is-free
 
   -- each index is listed at most once
-  pub listed-once : (m : List ℕ) (ps : List P) → Fits m ps → NoRepeats (indexes (unlisted ix m ps))
+  pub listed-once : (m : List ℕ) (ps : List P) → Fits ix m ps → NoRepeats (indexes ix (unlisted v ix m ps))
   unfolding unlisted
   listed-once m [] f = none
   listed-once m (p ∷ ps) f =
-      split (free ix m p)
-      (λ t. rw (unlisted-free ix m p ps t) (more not-again (listed-once (mark ix m p) ps (fits-mark m p ps f))))
-      (λ t. rw (unlisted-taken ix m p ps t) (listed-once m ps (λ i q. f i (there q))))
+      split (free v ix m p)
+      (λ t. rw (unlisted-free v ix m p ps t) (more not-again (listed-once (mark v ix m p) ps (fits-mark m p ps f))))
+      (λ t. rw (unlisted-taken v ix m p ps t) (listed-once m ps (λ i q. f i (there q))))
     where
-      not-again : In (ix p) (indexes (unlisted ix (mark ix m p) ps)) → ⊥
+      not-again : In (ix p) (indexes ix (unlisted v ix (mark v ix m p) ps)) → ⊥
       not-again q =
-          let w = listed-was (mark ix m p) ps (fits-mark m p ps f) (ix p) q in
-          true≢false (sym (w .is-free) ∙ taken-self m (ix p) (f (ix p) (here refl)))
+          let w = listed-was (mark v ix m p) ps (fits-mark m p ps f) (ix p) q in
+          true≢false (sym (w .is-free) ∙ taken-self v m (ix p) (f (ix p) (here refl)))
 
   -- with no mark set and no index twice all is listed
-  pub unlisted-all : (m : List ℕ) (ps : List P) → NoRepeats (indexes ps) → ((i : ℕ) → In i (indexes ps) → freeAt m i ≡ true) → unlisted ix m ps ≡ ps
+  pub unlisted-all : (m : List ℕ) (ps : List P) → NoRepeats (indexes ix ps) → ((i : ℕ) → In i (indexes ix ps) → freeAt v m i ≡ true) → unlisted v ix m ps ≡ ps
   unfolding unlisted
   unlisted-all m [] u z = refl
   unlisted-all m (p ∷ ps) (more n u) z =
-      unlisted-free ix m p ps (z (ix p) (here refl))
-      ∙ ap (λ (l : List P). p ∷ l) (unlisted-all (mark ix m p) ps u (λ i q. free-other m (ix p) i (λ e. n (in-cast (sym e) q)) ∙ z i (there q)))
+      unlisted-free v ix m p ps (z (ix p) (here refl))
+      ∙ ap (λ (l : List P). p ∷ l) (unlisted-all (mark v ix m p) ps u (λ i q. free-other v m (ix p) i (λ e. n (in-cast (sym e) q)) ∙ z i (there q)))
 
   -- listing two lists in turn is listing their join
   pub unlisted-append : (m : List ℕ) (ps qs : List P)
-      → unlisted ix m (ps ++ qs) ≡ unlisted ix m ps ++ unlisted ix (marked ix m (unlisted ix m ps)) qs
+      → unlisted v ix m (ps ++ qs) ≡ unlisted v ix m ps ++ unlisted v ix (marked v ix m (unlisted v ix m ps)) qs
   unfolding unlisted marked
   unlisted-append m [] qs = refl
   unlisted-append m (p ∷ ps) qs =
-      split (free ix m p)
-      (λ t. unlisted-free ix m p (ps ++ qs) t ∙ ap (λ (l : List P). p ∷ l) (unlisted-append (mark ix m p) ps qs) ∙ joined (sym (unlisted-free ix m p ps t)))
-      (λ t. unlisted-taken ix m p (ps ++ qs) t ∙ unlisted-append m ps qs ∙ joined (sym (unlisted-taken ix m p ps t)))
+      split (free v ix m p)
+      (λ t. unlisted-free v ix m p (ps ++ qs) t ∙ ap (λ (l : List P). p ∷ l) (unlisted-append (mark v ix m p) ps qs) ∙ joined (sym (unlisted-free v ix m p ps t)))
+      (λ t. unlisted-taken v ix m p (ps ++ qs) t ∙ unlisted-append m ps qs ∙ joined (sym (unlisted-taken v ix m p ps t)))
     where
-      joined : {l k : List P} → l ≡ k → l ++ unlisted ix (marked ix m l) qs ≡ k ++ unlisted ix (marked ix m k) qs
-      joined e = ap (λ (l : List P). l ++ unlisted ix (marked ix m l) qs) e
+      joined : {l k : List P} → l ≡ k → l ++ unlisted v ix (marked v ix m l) qs ≡ k ++ unlisted v ix (marked v ix m k) qs
+      joined e = ap (λ (l : List P). l ++ unlisted v ix (marked v ix m l) qs) e
 
-  pub marked-append : (m : List ℕ) (ps qs : List P) → marked ix m (ps ++ qs) ≡ marked ix (marked ix m ps) qs
+  pub marked-append : (m : List ℕ) (ps qs : List P) → marked v ix m (ps ++ qs) ≡ marked v ix (marked v ix m ps) qs
   unfolding marked
   marked-append m [] qs = refl
-  marked-append m (p ∷ ps) qs = marked-append (mark ix m p) ps qs
+  marked-append m (p ∷ ps) qs = marked-append (mark v ix m p) ps qs
 
-  pub unlisted-within : (m : List ℕ) (ps : List P) (p : P) → In p (unlisted ix m ps) → In p ps
+  pub unlisted-within : (m : List ℕ) (ps : List P) (p : P) → In p (unlisted v ix m ps) → In p ps
   unfolding unlisted
   unlisted-within m [] p q = q
   unlisted-within m (x ∷ ps) p q =
-      split (free ix m x)
-      (λ t. ⊎-elim here (λ k. there (unlisted-within (mark ix m x) ps p k)) (in-cons (rw (unlisted-free ix m x ps t) at q)))
-      (λ t. there (unlisted-within m ps p (rw (unlisted-taken ix m x ps t) at q)))
+      split (free v ix m x)
+      (λ t. ⊎-elim here (λ k. there (unlisted-within (mark v ix m x) ps p k)) (in-cons (rw (unlisted-free v ix m x ps t) at q)))
+      (λ t. there (unlisted-within m ps p (rw (unlisted-taken v ix m x ps t) at q)))
 
-  listed-too : (m : List ℕ) (ps qs : List P) → Fits m ps → ((i : ℕ) → In i (indexes ps) → In i (indexes qs))
-      → (i : ℕ) → In i (indexes (unlisted ix m ps)) → In i (indexes (unlisted ix m qs))
+  listed-too : (m : List ℕ) (ps qs : List P) → Fits ix m ps → ((i : ℕ) → In i (indexes ix ps) → In i (indexes ix qs))
+      → (i : ℕ) → In i (indexes ix (unlisted v ix m ps)) → In i (indexes ix (unlisted v ix m qs))
   listed-too m ps qs f to i q = let w = listed-was m ps f i q in listed-of m qs i (w .is-free) (to i (w .member))
 
   -- two lists of positions with the same indexes
-  module _ (m : List ℕ) (ps qs : List P) (f : Fits m ps)
-      (to : (i : ℕ) → In i (indexes ps) → In i (indexes qs)) (from : (i : ℕ) → In i (indexes qs) → In i (indexes ps)) where
-    fits-too : Fits m qs
+  module _ (m : List ℕ) (ps qs : List P) (f : Fits ix m ps)
+      (to : (i : ℕ) → In i (indexes ix ps) → In i (indexes ix qs)) (from : (i : ℕ) → In i (indexes ix qs) → In i (indexes ix ps)) where
+    fits-too : Fits ix m qs
     fits-too i q = f i (from i q)
 
-    -- the indexes listed of the one are a rearrangement of those listed of the other
-    pub same-listed : Rearranged (indexes (unlisted ix m ps)) (indexes (unlisted ix m qs))
+    -- the indexes ix listed of the one are a rearrangement of those listed of the other
+    pub same-listed : Rearranged (indexes ix (unlisted v ix m ps)) (indexes ix (unlisted v ix m qs))
     same-listed =
         same-elements _ (listed-once m ps f) (listed-once m qs fits-too) (listed-too m ps qs f to) (listed-too m qs ps fits-too from)
 
     -- and the marks that are left are equal
-    pub same-marks : marked ix m (unlisted ix m ps) ≡ marked ix m (unlisted ix m qs)
+    pub same-marks : marked v ix m (unlisted v ix m ps) ≡ marked v ix m (unlisted v ix m qs)
     same-marks =
-        ext-getD 0 _ _ (length-marked m (unlisted ix m ps) ∙ sym (length-marked m (unlisted ix m qs)))
-        (λ i h. at-index i (rw (length-marked m (unlisted ix m ps)) at h) (decIn ℕ-discrete i (indexes (unlisted ix m ps))))
+        ext-getD 0 _ _ (length-marked m (unlisted v ix m ps) ∙ sym (length-marked m (unlisted v ix m qs)))
+        (λ i h. at-index i (rw (length-marked m (unlisted v ix m ps)) at h) (decIn ℕ-discrete i (indexes ix (unlisted v ix m ps))))
       where
-        at-index : (i : ℕ) → i < length m → Dec (In i (indexes (unlisted ix m ps)))
-            → getD (marked ix m (unlisted ix m ps)) i 0 ≡ getD (marked ix m (unlisted ix m qs)) i 0
+        at-index : (i : ℕ) → i < length m → Dec (In i (indexes ix (unlisted v ix m ps)))
+            → getD (marked v ix m (unlisted v ix m ps)) i 0 ≡ getD (marked v ix m (unlisted v ix m qs)) i 0
         at-index i h (yes q) =
-            marked-in m (unlisted ix m ps) i h q ∙ sym (marked-in m (unlisted ix m qs) i h (listed-too m ps qs f to i q))
+            marked-in m (unlisted v ix m ps) i h q ∙ sym (marked-in m (unlisted v ix m qs) i h (listed-too m ps qs f to i q))
         at-index i h (no n) =
-            marked-out m (unlisted ix m ps) i n
-            ∙ sym (marked-out m (unlisted ix m qs) i (λ q. n (listed-too m qs ps fits-too from i q)))
+            marked-out m (unlisted v ix m ps) i n
+            ∙ sym (marked-out m (unlisted v ix m qs) i (λ q. n (listed-too m qs ps fits-too from i q)))

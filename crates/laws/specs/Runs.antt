@@ -1,4 +1,4 @@
--- One progression: a step, a run of steps until the answer is Ended, and what the run lists. Assumes nothing.
+-- One progression and one viewer v: a step, a run of steps until the answer is Ended, and what the run lists. Assumes nothing.
 use mathlib.Core.Path.{_≡_, refl, sym, ap, _∙_}
 use mathlib.Core.Bool.{Bool, true, false}
 use mathlib.Core.List.{List, [], _∷_, _++_, append-assoc, append-nil, List·Memᴰ as In, List·Memᴰ·head as here, List·Memᴰ·tail as there, Memᴰ·append-right as in-right}
@@ -58,13 +58,13 @@ module _ {P : Type 0} (same : Discrete P) where
   after-ends (at p) ps = behind-ends same p ps
   after-ends ended ps = (ps, sym (append-nil ps))
 
-module _ {P : Type 0} (ix : P → ℕ) where
+module _ {P : Type 0} (v : ℕ) (ix : P → ℕ) where
   -- p has no mark
   abbrev pub free : List ℕ → P → Bool
-  free m p = freeAt m (ix p)
+  free m p = freeAt v m (ix p)
 
   abbrev pub mark : List ℕ → P → List ℕ
-  mark m p = markAt m (ix p)
+  mark m p = markAt v m (ix p)
 
   -- the first position that has no mark
   unfoldable pub seek : List ℕ → List P → Answer P
@@ -124,6 +124,15 @@ module _ {P : Type 0} (ix : P → ℕ) where
       (λ t. let k = seek-free m q ps t in let r : p ≡ q = cc in rw r t)
       (λ t. seek-is-free m ps p (sym (seek-taken m q ps t) ∙ e))
 
+  -- a search sees nothing of the marks but whether they are free
+  pub seek-same : (m n : List ℕ) → ((i : ℕ) → freeAt v m i ≡ freeAt v n i) → (ps : List P) → seek m ps ≡ seek n ps
+  unfolding seek
+  seek-same m n e [] = refl
+  seek-same m n e (p ∷ ps) =
+      split (free m p)
+      (λ t. seek-free m p ps t ∙ sym (seek-free n p ps (sym (e (ix p)) ∙ t)))
+      (λ t. seek-taken m p ps t ∙ seek-same m n e ps ∙ sym (seek-taken n p ps (sym (e (ix p)) ∙ t)))
+
   pub unlisted-shorter : (m : List ℕ) (ps : List P) → length (unlisted m ps) ≤ length ps
   unfolding unlisted
   unlisted-shorter m [] = omega arith
@@ -132,9 +141,9 @@ module _ {P : Type 0} (ix : P → ℕ) where
       (λ e. rw (unlisted-free m p ps e) (let h = unlisted-shorter (mark m p) ps in omega arith))
       (λ e. rw (unlisted-taken m p ps e) (let h = unlisted-shorter m ps in omega arith))
 
-module _ {P : Type 0} (same : Discrete P) (ix : P → ℕ) where
+module _ {P : Type 0} (same : Discrete P) (v : ℕ) (ix : P → ℕ) where
   unfoldable pub stepOf : List P → List ℕ → Cursor P → Step P
-  stepOf ps m c = stepBy ix m (seek ix m (after same c ps))
+  stepOf ps m c = stepBy v ix m (seek v ix m (after same c ps))
 
   -- at most n steps, each from where the one before has left off, until one answers Ended
   unfoldable pub run : ℕ → List P → List ℕ → Cursor P → Ran P
@@ -143,9 +152,9 @@ module _ {P : Type 0} (same : Discrete P) (ix : P → ℕ) where
 
   -- a run depends on its cursor only through what the first step finds
   run-by : (n : ℕ) (ps : List P) (m : List ℕ) (c : Cursor P) (a : Answer P)
-      → seek ix m (after same c ps) ≡ a → run (suc n) ps m c ≡ onward (stepBy ix m a) (run n ps)
+      → seek v ix m (after same c ps) ≡ a → run (suc n) ps m c ≡ onward (stepBy v ix m a) (run n ps)
   unfolding run stepOf
-  run-by n ps m c a e = ap (λ (b : Answer P). onward (stepBy ix m b) (run n ps)) e
+  run-by n ps m c a e = ap (λ (b : Answer P). onward (stepBy v ix m b) (run n ps)) e
 
   -- once the answer was Ended, every further step answers Ended and changes nothing
   pub ended-stays : (ps : List P) (m : List ℕ) → stepOf ps m ended ≡ record { answer = Ended; cursor = ended; marks = m }
@@ -154,19 +163,19 @@ module _ {P : Type 0} (same : Discrete P) (ix : P → ℕ) where
 
   -- what is yet to be listed, by what a step finds
   abbrev pub toCome : List P → List ℕ → Answer P → List P
-  toCome ps m (Packet p) = p ∷ unlisted ix (mark ix m p) (after same (at p) ps)
+  toCome ps m (Packet p) = p ∷ unlisted v ix (mark v ix m p) (after same (at p) ps)
   toCome ps m Ended = []
 
   -- what a search after a cursor finds is a position of the list
-  pub found-in : (ps : List P) (m : List ℕ) (c : Cursor P) (p : P) → seek ix m (after same c ps) ≡ Packet p → In p ps
-  found-in ps m c p e = let w = after-ends same c ps in rw (w .1) (in-right (w .0) (seek-in ix m (after same c ps) p e))
+  pub found-in : (ps : List P) (m : List ℕ) (c : Cursor P) (p : P) → seek v ix m (after same c ps) ≡ Packet p → In p ps
+  found-in ps m c p e = let w = after-ends same c ps in rw (w .1) (in-right (w .0) (seek-in v ix m (after same c ps) p e))
 
   -- the cursor that a step answers is one of these, whatever it was before
   pub step-admits : (ps : List P) (m : List ℕ) (c : Cursor P) → Admits ps (stepOf ps m c .cursor)
   unfolding stepOf
-  step-admits ps m c = admits (seek ix m (after same c ps)) refl
+  step-admits ps m c = admits (seek v ix m (after same c ps)) refl
     where
-      admits : (a : Answer P) → seek ix m (after same c ps) ≡ a → Admits ps (stepBy ix m a .cursor)
+      admits : (a : Answer P) → seek v ix m (after same c ps) ≡ a → Admits ps (stepBy v ix m a .cursor)
       admits (Packet p) e = found-in ps m c p e
       admits Ended e = tt
 
@@ -177,51 +186,51 @@ module _ {P : Type 0} (same : Discrete P) (ix : P → ℕ) where
         ∙ behind-past same p before (p ∷ left) (no-repeats-before before p left (rw w at u))
         ∙ behind-here same p p left refl
 
-    step-left : (m : List ℕ) (before left : List P) → ps ≡ before ++ left → unlisted ix m left ≡ toCome ps m (seek ix m left)
+    step-left : (m : List ℕ) (before left : List P) → ps ≡ before ++ left → unlisted v ix m left ≡ toCome ps m (seek v ix m left)
     unfolding unlisted seek
     step-left m before [] w = refl
     step-left m before (p ∷ left) w =
-        split (free ix m p)
+        split (free v ix m p)
         (λ t.
-        unlisted-free ix m p left t
-        ∙ ap (λ (l : List P). p ∷ unlisted ix (mark ix m p) l) (sym (behind-left before left p w))
-        ∙ ap (toCome ps m) (sym (seek-free ix m p left t)))
+        unlisted-free v ix m p left t
+        ∙ ap (λ (l : List P). p ∷ unlisted v ix (mark v ix m p) l) (sym (behind-left before left p w))
+        ∙ ap (toCome ps m) (sym (seek-free v ix m p left t)))
         (λ t.
-        unlisted-taken ix m p left t
+        unlisted-taken v ix m p left t
         ∙ step-left m (before ++ (p ∷ [])) left (w ∙ sym (append-assoc before (p ∷ []) left))
-        ∙ ap (toCome ps m) (sym (seek-taken ix m p left t)))
+        ∙ ap (toCome ps m) (sym (seek-taken v ix m p left t)))
 
-    to-come : (m : List ℕ) (c : Cursor P) (a : Answer P) → seek ix m (after same c ps) ≡ a → unlisted ix m (after same c ps) ≡ toCome ps m a
+    to-come : (m : List ℕ) (c : Cursor P) (a : Answer P) → seek v ix m (after same c ps) ≡ a → unlisted v ix m (after same c ps) ≡ toCome ps m a
     to-come m c a e = let w = after-ends same c ps in step-left m (w .0) (after same c ps) (w .1) ∙ ap (toCome ps m) e
 
     -- THE LAW OF A STEP: what is yet to be listed starts with the packet that the step answers, and goes on with what is yet to be listed then
-    pub step-next : (m : List ℕ) (c : Cursor P) → unlisted ix m (after same c ps) ≡ toCome ps m (stepOf ps m c .answer)
+    pub step-next : (m : List ℕ) (c : Cursor P) → unlisted v ix m (after same c ps) ≡ toCome ps m (stepOf ps m c .answer)
     unfolding stepOf
-    step-next m c = to-come m c _ (answer-same (seek ix m (after same c ps)))
+    step-next m c = to-come m c _ (answer-same (seek v ix m (after same c ps)))
       where
-        answer-same : (a : Answer P) → a ≡ stepBy ix m a .answer
+        answer-same : (a : Answer P) → a ≡ stepBy v ix m a .answer
         answer-same (Packet p) = refl
         answer-same Ended = refl
 
-    run-found : (n : ℕ) (m : List ℕ) (c : Cursor P) (a : Answer P) → seek ix m (after same c ps) ≡ a → length (unlisted ix m (after same c ps)) < suc n
-        → ((k : List ℕ) (d : Cursor P) → length (unlisted ix k (after same d ps)) < n → run n ps k d ≡ finished ix k (after same d ps))
-        → run (suc n) ps m c ≡ finished ix m (after same c ps)
+    run-found : (n : ℕ) (m : List ℕ) (c : Cursor P) (a : Answer P) → seek v ix m (after same c ps) ≡ a → length (unlisted v ix m (after same c ps)) < suc n
+        → ((k : List ℕ) (d : Cursor P) → length (unlisted v ix k (after same d ps)) < n → run n ps k d ≡ finished v ix k (after same d ps))
+        → run (suc n) ps m c ≡ finished v ix m (after same c ps)
     unfolding marked
     run-found n m c (Packet p) e h go =
-        let t : unlisted ix m (after same c ps) ≡ p ∷ unlisted ix (mark ix m p) (behind same p ps) = to-come m c (Packet p) e in
-        let k : length (p ∷ unlisted ix (mark ix m p) (behind same p ps)) < suc n = rw t at h in
+        let t : unlisted v ix m (after same c ps) ≡ p ∷ unlisted v ix (mark v ix m p) (behind same p ps) = to-come m c (Packet p) e in
+        let k : length (p ∷ unlisted v ix (mark v ix m p) (behind same p ps)) < suc n = rw t at h in
         run-by n ps m c (Packet p) e
-        ∙ ap (λ (r : Ran P). record { packets = p ∷ r .packets; cursor = r .cursor; marks = r .marks }) (go (mark ix m p) (at p) (omega arith))
-        ∙ ap (λ (l : List P). record { packets = l; cursor = ended; marks = marked ix m l }) (sym t)
+        ∙ ap (λ (r : Ran P). record { packets = p ∷ r .packets; cursor = r .cursor; marks = r .marks }) (go (mark v ix m p) (at p) (omega arith))
+        ∙ ap (λ (l : List P). record { packets = l; cursor = ended; marks = marked v ix m l }) (sym t)
     run-found n m c Ended e h go =
         run-by n ps m c Ended e
-        ∙ ap (λ (l : List P). record { packets = l; cursor = ended; marks = marked ix m l }) (sym (to-come m c Ended e))
+        ∙ ap (λ (l : List P). record { packets = l; cursor = ended; marks = marked v ix m l }) (sym (to-come m c Ended e))
 
     -- a run from any cursor lists what is unlisted after it, marks these, and ends
-    pub run-from : (n : ℕ) (m : List ℕ) (c : Cursor P) → length (unlisted ix m (after same c ps)) < n → run n ps m c ≡ finished ix m (after same c ps)
+    pub run-from : (n : ℕ) (m : List ℕ) (c : Cursor P) → length (unlisted v ix m (after same c ps)) < n → run n ps m c ≡ finished v ix m (after same c ps)
     run-from zero m c h = absurd (let z : ⊥ = omega arith in z)
     run-from (suc n) m c h = run-found n m c _ refl h (run-from n)
 
     -- R1: a run of one progression. length ps + 1 steps are enough, and more change nothing
-    pub run-lists : (n : ℕ) (m : List ℕ) → length ps < n → run n ps m fresh ≡ finished ix m ps
-    run-lists n m h = run-from n m fresh (omega (arith, unlisted-shorter ix m ps))
+    pub run-lists : (n : ℕ) (m : List ℕ) → length ps < n → run n ps m fresh ≡ finished v ix m ps
+    run-lists n m h = run-from n m fresh (omega (arith, unlisted-shorter v ix m ps))

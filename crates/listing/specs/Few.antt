@@ -7,6 +7,7 @@ use lib.ListN.{length, getD}
 use Rattle.laws.specs.Axis.{span}
 use Rattle.laws.specs.Gather.{gather-map}
 use Rattle.laws.specs.Gathered.{gathered-all}
+use Rattle.laws.specs.Marks.{zero-free}
 use Rattle.laws.specs.Runs.{unlisted}
 use Rattle.laws.specs.AllRuns.{joined, unlisted-dedupe}
 use Rattle.laws.specs.Frees.{frees-most, unlisted-few}
@@ -31,7 +32,7 @@ module _ (st : State) (table marks : List ℕ) (d : Sound st table marks) (clear
   pub listed-few : length (listed st table) ≤ needed st
   unfolding listed all
   listed-few =
-      let same = unlisted-dedupe (indexOf st) (needed st) marks all (d .marks-long) clear (λ i q. let r = in-of-map (indexOf st) all q in subst (λ (n : ℕ). n < needed st) (r .2) (below (r .0) (r .1))) in
-      let few = unlisted-few (indexOf st) (needed st) marks all (λ p i. let b = below p i in (b, omega (arith, b, d .marks-long))) in
-      let all-few : length (unlisted (indexOf st) marks all) ≤ needed st = omega (arith, few, frees-most (needed st) marks) in
+      let same = unlisted-dedupe 0 (indexOf st) (needed st) marks all (d .marks-long) (λ i h. zero-free 0 marks i (clear i h)) (λ i q. let r = in-of-map (indexOf st) all q in subst (λ (n : ℕ). n < needed st) (r .2) (below (r .0) (r .1))) in
+      let few = unlisted-few 0 (indexOf st) (needed st) marks all (λ p i. let b = below p i in (b, omega (arith, b, d .marks-long))) in
+      let all-few : length (unlisted 0 (indexOf st) marks all) ≤ needed st = omega (arith, few, frees-most 0 (needed st) marks) in
       rw same at all-few

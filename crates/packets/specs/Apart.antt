@@ -5,13 +5,15 @@ use mathlib.Core.Option.{Option, some, none}
 use Prim.Native.Nat.{zero, suc}
 use lib.Dec.{eqb}
 use lib.IntN.{ℤ, pos, negsuc}
-use Rattle.types.specs.Answers.{numberOf, SetUpSaid, ofSetUp, OpenSaid, ofOpened, StepSaid, ofStepped, RectangleSaid, ofLocated}
+use Rattle.types.specs.Answers.{numberOf, SetUpSaid, ofSetUp, OpenSaid, ofOpened, StepSaid, ofJoined, ofStepped, RectangleSaid, ofLocated}
 use Rattle.types.specs.declared.cursor.Cursor.{Cursor}
 use Rattle.types.specs.declared.answer.Verdict.{Verdict}
 use Rattle.types.specs.declared.answer.Verdict.the-variants as verdict
 use Rattle.types.specs.declared.answer.SetUp.{SetUp}
 use Rattle.types.specs.declared.answer.Opened.{Opened}
 use Rattle.types.specs.declared.answer.Opened.the-variants as opened
+use Rattle.types.specs.declared.answer.Joined.{Joined}
+use Rattle.types.specs.declared.answer.Joined.the-variants as joined
 use Rattle.types.specs.declared.answer.Stepped.{Stepped}
 use Rattle.types.specs.declared.answer.Stepped.the-variants as stepped
 use Rattle.types.specs.declared.answer.Located.{Located}
@@ -52,16 +54,31 @@ setup-apart r s e =
 byCursor : Option Cursor → ℤ → Opened
 byCursor (some c) n = opened.Cursor c
 byCursor none (pos n) = opened.NoSuch
-byCursor none (negsuc n) = elim (eqb n 8) [ true ↦ opened.Unsound | false ↦ opened.NoSuch ]
+byCursor none (negsuc n) = elim (eqb n 8) [ true ↦ opened.Unsound | false ↦ elim (eqb n 14) [ true ↦ opened.NoViewer | false ↦ opened.NoSuch ] ]
 
 by-cursor : (o : Opened) → byCursor (ofOpened o .cursor) (ofOpened o .number) ≡ o
 unfolding byCursor
 by-cursor (opened.Cursor c) = refl
 by-cursor opened.Unsound = refl
+by-cursor opened.NoViewer = refl
 by-cursor opened.NoSuch = refl
 
 pub opened-apart : (r s : Opened) → ofOpened r ≡ ofOpened s → r ≡ s
 opened-apart r s e = sym (by-cursor r) ∙ ap (λ (x : OpenSaid). byCursor (x .cursor) (x .number)) e ∙ by-cursor s
+
+-- a joining from what it says
+byJoin : ℤ → Joined
+byJoin (pos n) = joined.Done
+byJoin (negsuc n) = elim (eqb n 8) [ true ↦ joined.Unsound | false ↦ joined.NoViewer ]
+
+by-join : (r : Joined) → byJoin (ofJoined r) ≡ r
+unfolding byJoin
+by-join joined.Done = refl
+by-join joined.Unsound = refl
+by-join joined.NoViewer = refl
+
+pub joined-apart : (r s : Joined) → ofJoined r ≡ ofJoined s → r ≡ s
+joined-apart r s e = sym (by-join r) ∙ ap byJoin e ∙ by-join s
 
 -- a step from what it says
 byPacket : Option Position → ℤ → Cursor → Stepped

@@ -9,9 +9,11 @@ use lib.IntN.{ℤ, pos, negsuc}
 use Rattle.laws.specs.Gather.{gather}
 use Rattle.laws.specs.Axis.{span}
 use Rattle.laws.specs.Lists.{behind}
+use Rattle.laws.specs.Marks.{clearedTo}
 use Rattle.laws.specs.Runs.{Answer, Packet, Ended, seek, mark, marked}
 use Rattle.laws.specs.AllRuns.{joined, dedupe}
 use Rattle.types.specs.State.{emptyState, freshCursor, endedCursor}
+use Rattle.types.specs.Viewers.{isViewer}
 use Rattle.words.specs.Words.{wordsBytes, over}
 use Rattle.packets.specs.Sheet.{readVerdict}
 use Rattle.packets.specs.Tile.{precincts, rectangle, reported, needed, indexOf, tableBytes}
@@ -66,14 +68,26 @@ setupOf sheet table marks =
     let v = setupVerdict sheet table marks in
     cond (eqb v 0) (accepted sheet table marks) (turnedAway v table marks)
 
--- OPEN. 01: -9 is tested before -11; opening a progression again gives a fresh cursor over the marks as they are
+-- JOIN. 02, P4: joining clears the viewer's bit alone, in the needed marks; -9, then -15 for a viewer over 7
+pub record Join : Type 0 where
+  pub number : ℤ
+  pub marks : List ℕ
 
-unfoldable pub openOf : State → List ℕ → List ℕ → ℕ → OpenSaid
-openOf st table marks k =
+unfoldable pub joinOf : State → List ℕ → List ℕ → ℕ → Join
+joinOf st table marks v =
     cond (stateSound st table marks)
+    (cond (isViewer v) (record { number = pos 0; marks = clearedTo v (needed st) marks }) (record { number = refusal 15; marks = marks }))
+    (record { number = refusal 9; marks = marks })
+
+-- OPEN. 01, and 02, P4: -9, -15 for a viewer over 7, -11; opening a progression again gives a fresh cursor over the marks as they are
+unfoldable pub openOf : State → List ℕ → List ℕ → ℕ → ℕ → OpenSaid
+openOf st table marks v k =
+    cond (stateSound st table marks)
+    (cond (isViewer v)
     (cond (ltb k (st .progressions))
-    (record { number = pos 0; cursor = some (freshCursor k) })
+    (record { number = pos 0; cursor = some (freshCursor v k) })
     (record { number = refusal 11; cursor = none }))
+    (record { number = refusal 15; cursor = none }))
     (record { number = refusal 9; cursor = none })
 
 -- RECTANGLE of a precinct on its resolution. 02, P2: -9 where state or table is not sound, then -14 for a component, resolution or precinct that the table has
@@ -86,7 +100,7 @@ rectangleOf st table c r k =
     (record { number = refusal 14; area = none }))
     (record { number = refusal 9; area = none })
 
--- STEP. 01: a step searches after its cursor, in order
+-- STEP. 01: a step searches after its cursor, in order; 02, P4: by the bit of its viewer
 abbrev pub after : Place → List Position → List Position
 after place.Fresh ps = ps
 after (place.At p) ps = behind same p ps
@@ -97,15 +111,16 @@ pub record Step : Type 0 where
   pub marks : List ℕ
 
 -- 01: 1, the packet marked and returned with the moved cursor; or 0, the cursor is ended
-abbrev pub stepBy : State → List ℕ → ℕ → Answer Position → Step
-stepBy st marks k (Packet p) =
-    record { said = record { number = pos 1; packet = some p; cursor = record { progression = k; place = place.At p } }; marks = mark (indexOf st) marks p }
-stepBy st marks k Ended = record { said = record { number = pos 0; packet = none; cursor = endedCursor k }; marks = marks }
+abbrev pub stepBy : State → List ℕ → ℕ → ℕ → Answer Position → Step
+stepBy st marks v k (Packet p) =
+    record { said = record { number = pos 1; packet = some p; cursor = record { viewer = v; progression = k; place = place.At p } }; marks = mark v (indexOf st) marks p }
+stepBy st marks v k Ended = record { said = record { number = pos 0; packet = none; cursor = endedCursor v k }; marks = marks }
 
 -- 01: a refused step answers also the cursor as given
 unfoldable pub stepOf : State → List ℕ → List ℕ → Cursor → Step
 stepOf st table marks c =
-    let found = stepBy st marks (c .progression) (seek (indexOf st) marks (after (c .place) (positionsFor st table (c .progression)))) in
+    let v = c .viewer in
+    let found = stepBy st marks v (c .progression) (seek v (indexOf st) marks (after (c .place) (positionsFor st table (c .progression)))) in
     cond (sound st table marks c) found
     (record { said = record { number = refusal 9; packet = none; cursor = c }; marks = marks })
 
@@ -134,7 +149,7 @@ runVerdict sheet table marks output =
     let room = leb (16 * needed (reported (sheetIn sheet))) (length output) in
     cond (eqb v 0) (cond room 0 8) v
 
--- 01: the whole run answers the count of its records; output beyond is unchanged
+-- 01: the whole run answers the count of its records; output beyond is unchanged. 02, P4: it is viewer 0's
 unfoldable pub ranOver : Setup → List ℕ → Run
 ranOver u output =
     let st : State = u .said .state in
@@ -142,7 +157,7 @@ ranOver u output =
     record {
       number = pos (length ps);
       table = u .table;
-      marks = marked (indexOf st) (u .marks) ps;
+      marks = marked 0 (indexOf st) (u .marks) ps;
       output = over (recordsOf ps) output;
     }
 

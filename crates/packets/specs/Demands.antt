@@ -1,18 +1,20 @@
 -- THE DEMANDS on the calls, each as one theorem whose premises all stand in it. That every call ends, on every argument, is the kit's own proof of each function;
 -- that each function answers and leaves what these definitions say is its contract (docs/CONTRACTS.md). Assumes nothing.
-use mathlib.Core.Path.{_≡_, refl}
-use mathlib.Core.Bool.{true, cond}
+use mathlib.Core.Path.{_≡_, refl, _∙_}
+use mathlib.Core.Bool.{true, false, cond}
 use mathlib.Core.List.{List, [], _∷_, _++_, map, List·Memᴰ as In}
 use mathlib.Core.Option.{some, none}
 use Prim.Native.Nat.{ℕ, _+_, _-_, _*_, _/_, _%_, _^_, min, max, _≤_, _<_}
 use lib.ListN.{length, getD, replicate}
 use lib.Dec.{ltb}
 use lib.IntN.{pos, negsuc}
-use borrow.Author.Tests.{le-leb}
+use borrow.Author.Tests.{le-leb, lt-ltb}
 use Rattle.laws.specs.Ceiling.{ceilDiv}
 use Rattle.laws.specs.Gather.{keep}
 use Rattle.laws.specs.Axis.{span}
+use Rattle.laws.specs.Marks.{freeAt}
 use Rattle.laws.specs.Runs.{marked}
+use Rattle.laws.specs.AllRuns.{joined}
 use Rattle.geometry.specs.Precinct.{across}
 use Rattle.geometry.specs.Line.{boundOf, count}
 use Rattle.geometry.specs.Tile.{tileBoundsOf, tile-standard}
@@ -21,18 +23,21 @@ use Rattle.geometry.specs.declared.tile.Grid.{Grid}
 use Rattle.words.specs.Words.{wordsBytes, over}
 use Rattle.words.specs.Laws.{Bytes}
 use Rattle.types.specs.State.{emptyState, freshCursor, endedCursor}
+use Rattle.types.specs.Viewers.{isViewer}
 use Rattle.packets.specs.Sheet.{wd, componentRecord, resolutionRecord}
 use Rattle.packets.specs.Tile.{needed, indexOf}
 use Rattle.packets.specs.Table.{entryWord}
 use Rattle.packets.specs.Sound.{sound}
-use Rattle.packets.specs.Refusals.{setup-keeps, open-keeps, step-keeps, rectangle-keeps, run-keeps, bounds-keeps}
-use Rattle.packets.specs.Calls.{Setup, setupOf, openOf, rectangleOf, stepOf, wholeRunOf, recordsOf}
+use Rattle.packets.specs.Refusals.{setup-keeps, join-keeps, open-keeps, step-keeps, rectangle-keeps, run-keeps, bounds-keeps}
+use Rattle.packets.specs.Calls.{Setup, setupOf, joinOf, openOf, rectangleOf, stepOf, wholeRunOf, recordsOf}
 use Rattle.packets.specs.Bounds.{boundsOf}
 use Rattle.packets.specs.Host.{Turn, mostSteps, callTurn, Hosted, hostCalls, answered}
+use Rattle.packets.specs.Traces.{Call, opens, Reply, opened, Trace, traced, dealtWhere, writes, Running, toldRun}
 use Rattle.packets.specs.Wanted.{sheetOf, standardOf, standardAll, samePacket, firsts}
 use Rattle.packets.specs.WholeRun.{setup-zero, whole-run-calls}
 use Rattle.packets.specs.Own.{own-wide, own-high}
-use Rattle.packets.specs.OwnRun.{own-turn, own-went, own-cursors, own-order, own-once, own-only, own-set, own-clear, own-beyond, own-size, own-none-left, own-ended, own-reopened, own-fresh}
+use Rattle.packets.specs.Among.{listsOf}
+use Rattle.packets.specs.OwnRun.{own-turn, own-went, own-cursors, own-order, own-once, own-only, own-set, own-clear, own-beyond, own-size, own-long, own-lists, own-exists, own-answers, among-set, among-clear, among-beyond, among-size, own-none-left, own-opened, own-ended, own-reopened, own-fresh}
 use Rattle.types.specs.declared.state.State.{State}
 use Rattle.types.specs.declared.cursor.Position.{Position}
 use Rattle.types.specs.declared.cursor.Cursor.{Cursor}
@@ -45,9 +50,14 @@ pub demand-1-setup : (sheet table marks : List ℕ) (n : ℕ) → setupOf sheet 
 demand-1-setup sheet table marks = setup-keeps sheet table marks
 
 -- opening, which is lent nothing that it could change; it answers no cursor
-pub demand-1-open : (st : State) (table marks : List ℕ) (k n : ℕ) → openOf st table marks k .number ≡ negsuc n
-    → openOf st table marks k ≡ record { number = negsuc n; cursor = none }
+pub demand-1-open : (st : State) (table marks : List ℕ) (v k n : ℕ) → openOf st table marks v k .number ≡ negsuc n
+    → openOf st table marks v k ≡ record { number = negsuc n; cursor = none }
 demand-1-open st table marks = open-keeps st table marks
+
+-- joining
+pub demand-1-join : (st : State) (table marks : List ℕ) (v n : ℕ) → joinOf st table marks v .number ≡ negsuc n
+    → joinOf st table marks v ≡ record { number = negsuc n; marks = marks }
+demand-1-join st table marks = join-keeps st table marks
 
 -- a step, which answers the cursor as given
 pub demand-1-step : (st : State) (table marks : List ℕ) (c : Cursor) (n : ℕ) → stepOf st table marks c .said .number ≡ negsuc n
@@ -106,89 +116,136 @@ demand-2-precincts sheet table marks bytes e c r h k =
     let (p, same) = setup-zero sheet table marks e in
     rw same (own-wide sheet table marks bytes p c r h k, own-high sheet table marks bytes p c r h k)
 
--- B.12.1: progression k of a sheet that setup accepts, opened over the marks that setup leaves and stepped, lists the packets of the standard's loops with their
+-- B.12.1: progression k of a sheet that setup accepts, opened by viewer v over the marks that setup leaves and stepped, lists the packets of the standard's loops with their
 -- own counters, within 01's ranges; its opening answers 0, each step that finds one 1, the last 0
 pub demand-2-packets : (sheet table marks : List ℕ) → Bytes sheet → (let u : Setup = setupOf sheet table marks in u .said .number ≡ pos 0
-    → (k : ℕ) → k < u .said .state .progressions
-    → callTurn mostSteps (u .said .state) (u .table) (u .marks) k
+    → (v k : ℕ) → v < 8 → k < u .said .state .progressions
+    → callTurn mostSteps (u .said .state) (u .table) (u .marks) v k
     ≡ record {
       opening = pos 0;
       steps = replicate (length (standardOf sheet k)) (pos 1) ++ (pos 0 ∷ []);
       packets = standardOf sheet k;
-      cursor = some (endedCursor k);
-      marks = marked (indexOf (u .said .state)) (u .marks) (standardOf sheet k);
+      cursor = some (endedCursor v k);
+      marks = marked v (indexOf (u .said .state)) (u .marks) (standardOf sheet k);
     })
 demand-2-packets sheet table marks bytes e =
     let (p, same) = setup-zero sheet table marks e in
-    rw same (own-turn sheet table marks bytes p)
+    rw same (λ v k w. own-turn sheet table marks bytes p v (lt-ltb v 8 w) k)
 
--- DEMAND 3: what is right of all the calls of a host, r, over setup's answer for a sheet: its state st, the table, and the marks that were lent to it
-pub record Demand3 (sheet lent : List ℕ) (st : State) (table : List ℕ) (r : Hosted) : Type 0 where
+-- DEMAND 3, over every trace t of calls by any viewers after setup (its state st, its table, and the marks lent to it), in which of all calls that may write
+-- viewer v's bits (joining, steps) there are only those of v's run: other viewers join, open and step as they like, between any two
+pub record Demand3 (sheet lent : List ℕ) (st : State) (table : List ℕ) (v : ℕ) (t : Trace) : Type 0 where
   -- the state is what the sheet's bytes say, with setup's reports
   pub state : st ≡ sheetOf sheet .st
+  -- every opening of v's answers 0 and a fresh cursor
+  pub openings : (k : ℕ) → k < st .progressions → (r : Reply) → In (opens v k, r) (t .dealt) → r ≡ opened (record { number = pos 0; cursor = some (freshCursor v k) })
+  -- each progression has a list of packets, and v's steps answer those lists in turn: 1 for each packet, and 0 at the end of each list
+  pub lists : List (List Position)
+  pub every : length lists ≡ st .progressions
+  pub answers : dealtWhere (writes v) (t .dealt) ≡ toldRun v 0 lists
+  -- the packets answered are those of T.800's loops, progression after progression, in that order, one already listed left out
+  pub order : joined lists ≡ firsts (standardAll sheet)
+  -- each that some progression admits occurs exactly once
+  pub once : (k : ℕ) → k < st .progressions → (p : Position) → In p (standardOf sheet k) → length (keep (samePacket p) (joined lists)) ≡ 1
+  -- and no other occurs
+  pub only : (p : Position) → In p (joined lists) → (k : ℕ) × (k < st .progressions) × In p (standardOf sheet k)
+  -- of the marks needed those of the packets answered alone have v's bit set
+  pub set-marks : (p : Position) → In p (joined lists) → freeAt v (t .marks) (indexOf st p) ≡ false
+  pub clear-marks : (i : ℕ) → i < needed st → ((p : Position) → In p (joined lists) → indexOf st p ≡ i → ⊥) → freeAt v (t .marks) i ≡ true
+  -- and in the marks from there on v's bits are as lent
+  pub other-marks : (i : ℕ) → needed st ≤ i → freeAt v (t .marks) i ≡ freeAt v lent i
+  pub as-many-marks : length (t .marks) ≡ length lent
+  -- a further step of an ended cursor answers 0 and changes nothing
+  pub ended-again : (k : ℕ) → k < st .progressions
+      → stepOf st table (t .marks) (endedCursor v k) ≡ record { said = record { number = pos 0; packet = none; cursor = endedCursor v k }; marks = t .marks }
+  -- a progression opened again answers 0 and a fresh cursor, whose step answers 0, ends it and changes nothing
+  pub opened-again : (k : ℕ) → k < st .progressions → openOf st table (t .marks) v k ≡ record { number = pos 0; cursor = some (freshCursor v k) }
+  pub stepped-again : (k : ℕ) → k < st .progressions
+      → stepOf st table (t .marks) (freshCursor v k) ≡ record { said = record { number = pos 0; packet = none; cursor = endedCursor v k }; marks = t .marks }
+  -- and so does a step of any cursor of v's that is not refused
+  pub nothing-more : (c : Cursor) → c .viewer ≡ v → sound st table (t .marks) c ≡ true
+      → stepOf st table (t .marks) c ≡ record { said = record { number = pos 0; packet = none; cursor = endedCursor v (c .progression) }; marks = t .marks }
+
+-- for every sheet that setup accepts, every viewer and every such trace
+pub demand-3 : (sheet table marks : List ℕ) → Bytes sheet → (let u : Setup = setupOf sheet table marks in u .said .number ≡ pos 0
+    → (v : ℕ) → v < 8 → (calls : List Call) → (let t = traced (u .said .state) (u .table) (u .marks) calls in
+    Running (u .said .state) (freshCursor v 0) (dealtWhere (writes v) (t .dealt)) → Demand3 sheet marks (u .said .state) (u .table) v t))
+demand-3 sheet table marks bytes e =
+    let (p, same) = setup-zero sheet table marks e in
+    rw same
+    (λ v w calls own.
+    let viewer : isViewer v ≡ true = lt-ltb v 8 w in
+    let together = own-lists sheet table marks bytes p v viewer in
+    record {
+      state = refl;
+      openings = own-opened sheet table marks bytes p v viewer calls own;
+      lists = listsOf (hostCalls _ _ _ v);
+      every = own-long sheet table marks bytes p v viewer;
+      answers = own-answers sheet table marks bytes p v viewer calls own;
+      order = together ∙ own-order sheet table marks bytes p v viewer;
+      once = rw together (own-once sheet table marks bytes p v viewer);
+      only = rw together (own-only sheet table marks bytes p v viewer);
+      set-marks = rw together (among-set sheet table marks bytes p v viewer calls own);
+      clear-marks = rw together (among-clear sheet table marks bytes p v viewer calls own);
+      other-marks = among-beyond sheet table marks bytes p v viewer calls own;
+      as-many-marks = among-size sheet table marks bytes p v viewer calls own;
+      ended-again = own-ended sheet table marks bytes p v viewer calls own;
+      opened-again = own-reopened sheet table marks bytes p v viewer calls own;
+      stepped-again = own-fresh sheet table marks bytes p v viewer calls own;
+      nothing-more = own-none-left sheet table marks bytes p v viewer calls own;
+    })
+
+-- and there are such traces
+pub demand-3-met : (sheet table marks : List ℕ) → Bytes sheet → (let u : Setup = setupOf sheet table marks in u .said .number ≡ pos 0
+    → (v : ℕ) → v < 8 → (calls : List Call)
+    × Running (u .said .state) (freshCursor v 0) (dealtWhere (writes v) (traced (u .said .state) (u .table) (u .marks) calls .dealt)))
+demand-3-met sheet table marks bytes e =
+    let (p, same) = setup-zero sheet table marks e in
+    rw same (λ v w. own-exists sheet table marks bytes p v (lt-ltb v 8 w))
+
+-- THE RUN ALONE: the calls of a host for viewer v while nobody else calls, r
+pub record Alone (sheet lent : List ℕ) (st : State) (v : ℕ) (r : Hosted) : Type 0 where
   -- every opening answers 0
   pub openings : (t : Turn) → In t (r .turns) → t .opening ≡ pos 0
   -- of the steps of a progression each that finds a packet answers 1, and the last, which ends it, 0
   pub steps : (t : Turn) → In t (r .turns) → t .steps ≡ replicate (length (t .packets)) (pos 1) ++ (pos 0 ∷ [])
   -- every progression has its turn, in order, and its cursor is left ended
-  pub cursors : map (λ (t : Turn). t .cursor) (r .turns) ≡ map (λ k. some (endedCursor k)) (span 0 (st .progressions))
-  -- the packets answered are those of T.800's loops, progression after progression, in that order, one already listed left out
+  pub cursors : map (λ (t : Turn). t .cursor) (r .turns) ≡ map (λ k. some (endedCursor v k)) (span 0 (st .progressions))
+  -- the packets answered
   pub order : answered r ≡ firsts (standardAll sheet)
-  -- each that some progression admits occurs exactly once
-  pub once : (k : ℕ) → k < st .progressions → (p : Position) → In p (standardOf sheet k) → length (keep (samePacket p) (answered r)) ≡ 1
-  -- and no other occurs
-  pub only : (p : Position) → In p (answered r) → (k : ℕ) × (k < st .progressions) × In p (standardOf sheet k)
-  -- the mark of each of them is 1
-  pub set-marks : (p : Position) → In p (answered r) → getD (r .marks) (indexOf st p) 0 ≡ 1
-  -- every other mark that is needed is 0
+  -- the mark of each has this viewer's bit set, and no other; every other mark that is needed is 0; the marks from there on are as lent
+  pub set-marks : (p : Position) → In p (answered r) → getD (r .marks) (indexOf st p) 0 ≡ 2 ^ v
   pub clear-marks : (i : ℕ) → i < needed st → ((p : Position) → In p (answered r) → indexOf st p ≡ i → ⊥) → getD (r .marks) i 0 ≡ 0
-  -- and the marks from there on are as lent
   pub other-marks : (i : ℕ) → needed st ≤ i → getD (r .marks) i 0 ≡ getD lent i 0
   pub as-many-marks : length (r .marks) ≡ length lent
-  -- a further step of an ended cursor answers 0 and changes nothing
-  pub ended-again : (k : ℕ) → k < st .progressions
-      → stepOf st table (r .marks) (endedCursor k) ≡ record { said = record { number = pos 0; packet = none; cursor = endedCursor k }; marks = r .marks }
-  -- a progression opened again answers 0 and a fresh cursor, whose step answers 0, ends it and changes nothing
-  pub opened-again : (k : ℕ) → k < st .progressions → openOf st table (r .marks) k ≡ record { number = pos 0; cursor = some (freshCursor k) }
-  pub stepped-again : (k : ℕ) → k < st .progressions
-      → stepOf st table (r .marks) (freshCursor k) ≡ record { said = record { number = pos 0; packet = none; cursor = endedCursor k }; marks = r .marks }
-  -- and so does a step of any cursor that is not refused
-  pub nothing-more : (c : Cursor) → sound st table (r .marks) c ≡ true
-      → stepOf st table (r .marks) c ≡ record { said = record { number = pos 0; packet = none; cursor = endedCursor (c .progression) }; marks = r .marks }
 
--- for every sheet that setup accepts
-pub demand-3 : (sheet table marks : List ℕ) → Bytes sheet → (let u : Setup = setupOf sheet table marks in u .said .number ≡ pos 0
-    → Demand3 sheet marks (u .said .state) (u .table) (hostCalls (u .said .state) (u .table) (u .marks)))
-demand-3 sheet table marks bytes e =
+pub run-alone : (sheet table marks : List ℕ) → Bytes sheet → (let u : Setup = setupOf sheet table marks in u .said .number ≡ pos 0
+    → (v : ℕ) → v < 8 → Alone sheet marks (u .said .state) v (hostCalls (u .said .state) (u .table) (u .marks) v))
+run-alone sheet table marks bytes e =
     let (p, same) = setup-zero sheet table marks e in
-    let went = own-went sheet table marks bytes p in
     rw same
-    (record {
-      state = refl;
+    (λ v w.
+    let viewer : isViewer v ≡ true = lt-ltb v 8 w in
+    let went = own-went sheet table marks bytes p v viewer in
+    record {
       openings = λ t i. went .answers t i .opening;
       steps = λ t i. went .answers t i .steps;
-      cursors = own-cursors sheet table marks bytes p;
-      order = own-order sheet table marks bytes p;
-      once = own-once sheet table marks bytes p;
-      only = own-only sheet table marks bytes p;
-      set-marks = own-set sheet table marks bytes p;
-      clear-marks = own-clear sheet table marks bytes p;
-      other-marks = own-beyond sheet table marks bytes p;
-      as-many-marks = own-size sheet table marks bytes p;
-      ended-again = own-ended sheet table marks bytes p;
-      opened-again = own-reopened sheet table marks bytes p;
-      stepped-again = own-fresh sheet table marks bytes p;
-      nothing-more = own-none-left sheet table marks bytes p;
+      cursors = own-cursors sheet table marks bytes p v viewer;
+      order = own-order sheet table marks bytes p v viewer;
+      set-marks = own-set sheet table marks bytes p v viewer;
+      clear-marks = own-clear sheet table marks bytes p v viewer;
+      other-marks = own-beyond sheet table marks bytes p v viewer;
+      as-many-marks = own-size sheet table marks bytes p v viewer;
     })
 
--- THE WHOLE RUN IS THAT RUN, for every sheet that setup accepts and an output of 16 bytes for each mark needed: its number is the count of those packets, its
+-- THE WHOLE RUN IS THAT RUN of viewer 0, for every sheet that setup accepts and an output of 16 bytes for each mark needed: its number is the count of those packets, its
 -- records are theirs in that order, table and marks are those that the calls leave
 pub whole-run-same : (sheet table marks output : List ℕ) → Bytes sheet → (let u : Setup = setupOf sheet table marks in u .said .number ≡ pos 0
     → 16 * needed (u .said .state) ≤ length output
-    → (let r : Hosted = hostCalls (u .said .state) (u .table) (u .marks) in
+    → (let r : Hosted = hostCalls (u .said .state) (u .table) (u .marks) 0 in
     (wholeRunOf sheet table marks output
     ≡ record { number = pos (length (answered r)); table = u .table; marks = r .marks; output = over (recordsOf (answered r)) output })
     × (answered r ≡ firsts (standardAll sheet))))
 whole-run-same sheet table marks output bytes e =
     let (p, same) = setup-zero sheet table marks e in
-    rw same (λ room. (whole-run-calls sheet table marks bytes p output room, own-order sheet table marks bytes p))
+    rw same (λ room. (whole-run-calls sheet table marks bytes p output room, own-order sheet table marks bytes p 0 refl))

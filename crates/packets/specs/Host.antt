@@ -1,4 +1,4 @@
--- What a host does with a state: it opens each progression in turn and steps until the answer is no packet, over the same table and marks.
+-- What a host does with a state for one viewer: it opens each progression in turn and steps until the answer is no packet, over the same table and marks.
 -- Every number that comes back is kept.
 use Prim.Native.Nat.{ℕ, zero, suc, _+_}
 use mathlib.Core.List.{List, [], _∷_}
@@ -48,9 +48,9 @@ turnBy go marks z (some c) =
     record { opening = z; steps = r .numbers; packets = r .packets; cursor = some (r .cursor); marks = r .marks }
 turnBy go marks z none = record { opening = z; steps = []; packets = []; cursor = none; marks = marks }
 
--- progression k, opened over the marks as they are, with at most n steps
-unfoldable pub callTurn : ℕ → State → List ℕ → List ℕ → ℕ → Turn
-callTurn n st table marks k = let o : OpenSaid = openOf st table marks k in turnBy (callSteps n st table marks) marks (o .number) (o .cursor)
+-- progression k, opened by viewer v over the marks as they are, with at most n steps
+unfoldable pub callTurn : ℕ → State → List ℕ → List ℕ → ℕ → ℕ → Turn
+callTurn n st table marks v k = let o : OpenSaid = openOf st table marks v k in turnBy (callSteps n st table marks) marks (o .number) (o .cursor)
 
 -- the calls of some progressions, and the marks that they left
 pub record Hosted : Type 0 where
@@ -58,20 +58,20 @@ pub record Hosted : Type 0 where
   pub marks : List ℕ
 
 -- j progressions from number k on, with at most n steps each
-unfoldable pub callRuns : ℕ → ℕ → State → List ℕ → List ℕ → ℕ → Hosted
-callRuns n zero st table marks k = record { turns = []; marks = marks }
-callRuns n (suc j) st table marks k =
-    let t : Turn = callTurn n st table marks k in
-    let rest = callRuns n j st table (t .marks) (k + 1) in
+unfoldable pub callRuns : ℕ → ℕ → State → List ℕ → List ℕ → ℕ → ℕ → Hosted
+callRuns n zero st table marks v k = record { turns = []; marks = marks }
+callRuns n (suc j) st table marks v k =
+    let t : Turn = callTurn n st table marks v k in
+    let rest = callRuns n j st table (t .marks) v (k + 1) in
     record { turns = t ∷ rest .turns; marks = rest .marks }
 
 -- 01: at most 65,536 marks are needed, so that many packets at most are found, and one step more ends a progression
 abbrev pub mostSteps : ℕ
 mostSteps = 65537
 
--- every progression of a state
-unfoldable pub hostCalls : State → List ℕ → List ℕ → Hosted
-hostCalls st table marks = callRuns mostSteps (st .progressions) st table marks 0
+-- every progression of a state, for viewer v
+unfoldable pub hostCalls : State → List ℕ → List ℕ → ℕ → Hosted
+hostCalls st table marks v = callRuns mostSteps (st .progressions) st table marks v 0
 
 -- the packets answered, in order
 abbrev pub answered : Hosted → List Position

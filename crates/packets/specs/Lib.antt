@@ -16,6 +16,7 @@ pub mod Loops
 pub mod Standard
 pub mod Wanted
 pub mod Host
+pub mod Traces
 pub mod Counts
 pub mod Strided
 pub mod Skips
@@ -38,8 +39,10 @@ pub mod Meaning
 pub mod Entered
 pub mod Steps
 pub mod Rectangles
+pub mod Seen
 pub mod Turns
 pub mod Run
+pub mod Among
 pub mod WholeRun
 pub mod Own
 pub mod Firsts

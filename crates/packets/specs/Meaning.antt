@@ -282,15 +282,23 @@ admitted-means Fresh ps = (λ e. tt, λ w. refl)
 admitted-means (At p) ps = (is-in p ps, in-is p ps)
 admitted-means Ended ps = (λ e. tt, λ w. refl)
 
--- a cursor is sound exactly if it names a progression of the sheet, at a place which that admits
-pub cursor-means : (st : State) (table : List ℕ) (c : Cursor)
-    → (cursorSound st table c ≡ true) ↔ ((c .progression < st .progressions) × Admitted (c .place) (positionsFor st table (c .progression)))
+-- a cursor is sound exactly if it names a viewer and a progression of the sheet, at a place which that admits
+pub record CursorIn (st : State) (table : List ℕ) (c : Cursor) : Type 0 where
+  pub viewer : c .viewer < 8
+  pub named : c .progression < st .progressions
+  pub admitted : Admitted (c .place) (positionsFor st table (c .progression))
+
+pub cursor-means : (st : State) (table : List ℕ) (c : Cursor) → (cursorSound st table c ≡ true) ↔ CursorIn st table c
 unfolding cursorSound
-cursor-means st table c = and-means (ltb-means (c .progression) (st .progressions)) (admitted-means (c .place) (positionsFor st table (c .progression)))
+cursor-means st table c =
+    means-by
+    (and-means (ltb-means (c .viewer) 8) (and-means (ltb-means (c .progression) (st .progressions)) (admitted-means (c .place) (positionsFor st table (c .progression)))))
+    (λ w. record { viewer = w .0; named = w .1 .0; admitted = w .1 .1 })
+    (λ w. (w .viewer, (w .named, w .admitted)))
 
 -- the test before a step: state and cursor
 pub all-sound-means : (st : State) (table marks : List ℕ) (c : Cursor)
-    → (sound st table marks c ≡ true) ↔ (Sound st table marks × ((c .progression < st .progressions) × Admitted (c .place) (positionsFor st table (c .progression))))
+    → (sound st table marks c ≡ true) ↔ (Sound st table marks × CursorIn st table c)
 unfolding sound
 all-sound-means st table marks c = and-means (sound-means st table marks) (cursor-means st table c)
 

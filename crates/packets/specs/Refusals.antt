@@ -14,11 +14,13 @@ use Rattle.geometry.specs.declared.tile.Area.{Area}
 use Rattle.geometry.specs.declared.tile.Grid.{Grid}
 use Rattle.words.specs.Words.{wordsBytes, over}
 use Rattle.types.specs.State.{emptyState, freshCursor}
-use Rattle.packets.specs.Tile.{precincts, rectangle, indexOf}
+use Rattle.types.specs.Viewers.{isViewer}
+use Rattle.laws.specs.Marks.{clearedTo}
+use Rattle.packets.specs.Tile.{precincts, rectangle, needed, indexOf}
 use Rattle.packets.specs.Table.{sheetAt}
 use Rattle.packets.specs.Sound.{sheetSound, stateSound, positionsFor, sound}
 use Rattle.types.specs.Answers.{OpenSaid, RectangleSaid}
-use Rattle.packets.specs.Calls.{refusal, Setup, setupVerdict, accepted, setupOf, openOf, rectangleOf, after, Step, stepBy, stepOf, Run, runVerdict, listed, ranOver, wholeRunOf}
+use Rattle.packets.specs.Calls.{refusal, Setup, setupVerdict, accepted, setupOf, Join, joinOf, openOf, rectangleOf, after, Step, stepBy, stepOf, Run, runVerdict, listed, ranOver, wholeRunOf}
 use Rattle.packets.specs.Bounds.{Bounds, writtenBy, boundsOf}
 use Rattle.types.specs.declared.state.State.{State}
 use Rattle.types.specs.declared.cursor.Position.{Position}
@@ -50,6 +52,9 @@ module _ {A : Type 0} (number : A → ℤ) (kept : ℤ → A) where
 -- the number of each call
 abbrev setupNumber : Setup → ℤ
 setupNumber u = u .said .number
+
+abbrev joinNumber : Join → ℤ
+joinNumber o = o .number
 
 abbrev openNumber : OpenSaid → ℤ
 openNumber o = o .number
@@ -92,26 +97,38 @@ module _ (st : State) (table marks : List ℕ) where
   abbrev openKept : ℤ → OpenSaid
   openKept z = record { number = z; cursor = none }
 
-  pub open-keeps : (k : ℕ) → Keeps openNumber openKept (openOf st table marks k)
+  pub open-keeps : (v k : ℕ) → Keeps openNumber openKept (openOf st table marks v k)
   unfolding openOf
-  open-keeps k =
-      let fresh : OpenSaid = record { number = pos 0; cursor = some (freshCursor k) } in
-      or-refused openNumber openKept (λ z. refl) (stateSound st table marks) (cond (ltb k (st .progressions)) fresh (openKept (refusal 11))) (refusal 9)
-      (or-refused openNumber openKept (λ z. refl) (ltb k (st .progressions)) fresh (refusal 11) (found openNumber openKept fresh 0 refl))
+  open-keeps v k =
+      let fresh : OpenSaid = record { number = pos 0; cursor = some (freshCursor v k) } in
+      let there : OpenSaid = cond (ltb k (st .progressions)) fresh (openKept (refusal 11)) in
+      or-refused openNumber openKept (λ z. refl) (stateSound st table marks) (cond (isViewer v) there (openKept (refusal 15))) (refusal 9)
+      (or-refused openNumber openKept (λ z. refl) (isViewer v) there (refusal 15)
+      (or-refused openNumber openKept (λ z. refl) (ltb k (st .progressions)) fresh (refusal 11) (found openNumber openKept fresh 0 refl)))
+
+  abbrev joinKept : ℤ → Join
+  joinKept z = record { number = z; marks = marks }
+
+  pub join-keeps : (v : ℕ) → Keeps joinNumber joinKept (joinOf st table marks v)
+  unfolding joinOf
+  join-keeps v =
+      let done : Join = record { number = pos 0; marks = clearedTo v (needed st) marks } in
+      or-refused joinNumber joinKept (λ z. refl) (stateSound st table marks) (cond (isViewer v) done (joinKept (refusal 15))) (refusal 9)
+      (or-refused joinNumber joinKept (λ z. refl) (isViewer v) done (refusal 15) (found joinNumber joinKept done 0 refl))
 
   module _ (c : Cursor) where
     abbrev stepKept : ℤ → Step
     stepKept z = record { said = record { number = z; packet = none; cursor = c }; marks = marks }
 
-    step-found : (a : Answer Position) → Keeps stepNumber stepKept (stepBy st marks (c .progression) a)
-    step-found (Packet p) = found stepNumber stepKept (stepBy st marks (c .progression) (Packet p)) 1 refl
-    step-found Ended = found stepNumber stepKept (stepBy st marks (c .progression) Ended) 0 refl
+    step-found : (a : Answer Position) → Keeps stepNumber stepKept (stepBy st marks (c .viewer) (c .progression) a)
+    step-found (Packet p) = found stepNumber stepKept (stepBy st marks (c .viewer) (c .progression) (Packet p)) 1 refl
+    step-found Ended = found stepNumber stepKept (stepBy st marks (c .viewer) (c .progression) Ended) 0 refl
 
     pub step-keeps : Keeps stepNumber stepKept (stepOf st table marks c)
     unfolding stepOf
     step-keeps =
-        let a : Answer Position = seek (indexOf st) marks (after (c .place) (positionsFor st table (c .progression))) in
-        or-refused stepNumber stepKept (λ z. refl) (sound st table marks c) (stepBy st marks (c .progression) a) (refusal 9) (step-found a)
+        let a : Answer Position = seek (c .viewer) (indexOf st) marks (after (c .place) (positionsFor st table (c .progression))) in
+        or-refused stepNumber stepKept (λ z. refl) (sound st table marks c) (stepBy st marks (c .viewer) (c .progression) a) (refusal 9) (step-found a)
 
 module _ (st : State) (table : List ℕ) where
   abbrev rectangleKept : ℤ → RectangleSaid

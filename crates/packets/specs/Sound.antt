@@ -6,6 +6,7 @@ use lib.ListN.{length}
 use lib.Dec.{ltb, leb, eqb}
 use Rattle.laws.specs.Below.{allBelow}
 use Rattle.types.specs.Signed.{isZero}
+use Rattle.types.specs.Viewers.{isViewer}
 use Rattle.types.specs.Ranges.{tileRange, componentRange, exponentRange, isVolume, progressionRange}
 use Rattle.packets.specs.Tile.{Sheet, dxOf, dyOf, resOf, width, height, maxPrec, maxRes, dxMin, dyMin, needed, tableBytes}
 use Rattle.packets.specs.Grid.{everywhere, changeOf, gridAgreed}
@@ -86,9 +87,10 @@ placeSound Ended ps = true
 abbrev pub positionsFor : State → List ℕ → ℕ → List Position
 positionsFor st table k = positionsOf (sheetAt st table) (changeOf st k)
 
--- 01: the cursor names a progression of the sheet and is one of these three
+-- 01: the cursor names a progression of the sheet and is one of these three; 02, P4: and it names a viewer
 unfoldable pub cursorSound : State → List ℕ → Cursor → Bool
-cursorSound st table c = ltb (c .progression) (st .progressions) && placeSound (c .place) (positionsFor st table (c .progression))
+cursorSound st table c =
+    isViewer (c .viewer) && (ltb (c .progression) (st .progressions) && placeSound (c .place) (positionsFor st table (c .progression)))
 
 unfoldable pub sound : State → List ℕ → List ℕ → Cursor → Bool
 sound st table marks c = stateSound st table marks && cursorSound st table c

@@ -13,6 +13,7 @@ use Rattle.laws.specs.Cases.{split, and-true, and-both}
 use Rattle.laws.specs.Marks.{mark-length}
 use Rattle.laws.specs.Runs.{Answer, Packet, Ended, Cursor, fresh, at, ended, seek, mark, after as behindCursor, found-in}
 use Rattle.types.specs.State.{freshCursor, endedCursor}
+use Rattle.types.specs.Viewers.{isViewer}
 use Rattle.packets.specs.Tile.{indexOf}
 use Rattle.packets.specs.Sound.{stateSound, placeSound, positionsFor, cursorSound, sound}
 use Rattle.packets.specs.Same.{same}
@@ -40,21 +41,24 @@ pub sound-length : (st : State) (table m n : List ℕ) → length m ≡ length n
 unfolding stateSound
 sound-length st table m n e = rw e
 
--- a sound state and a place that its progression admits
-pub sound-made : (st : State) (table marks : List ℕ) (k : ℕ) (p : Place) → stateSound st table marks ≡ true → ltb k (st .progressions) ≡ true
-    → placeSound p (positionsFor st table k) ≡ true → sound st table marks (record { progression = k; place = p }) ≡ true
+-- a sound state, a viewer, and a place that its progression admits
+pub sound-made : (st : State) (table marks : List ℕ) (v k : ℕ) (p : Place) → stateSound st table marks ≡ true → isViewer v ≡ true → ltb k (st .progressions) ≡ true
+    → placeSound p (positionsFor st table k) ≡ true → sound st table marks (record { viewer = v; progression = k; place = p }) ≡ true
 unfolding sound cursorSound
-sound-made st table marks k p a b d = and-both a (and-both b d)
+sound-made st table marks v k p a w b d = and-both a (and-both w (and-both b d))
 
 module _ (st : State) (table marks : List ℕ) (c : cursor.Cursor) where
   abbrev ps : List Position
   ps = positionsFor st table (c .progression)
 
+  abbrev v : ℕ
+  v = c .viewer
+
   abbrev found : Answer Position
-  found = seek (indexOf st) marks (after (c .place) ps)
+  found = seek v (indexOf st) marks (after (c .place) ps)
 
   -- a sound cursor is searched from
-  pub step-searches : sound st table marks c ≡ true → stepOf st table marks c ≡ stepBy st marks (c .progression) found
+  pub step-searches : sound st table marks c ≡ true → stepOf st table marks c ≡ stepBy st marks v (c .progression) found
   unfolding stepOf
   step-searches h = rw h
 
@@ -69,13 +73,15 @@ module _ (st : State) (table marks : List ℕ) (c : cursor.Cursor) where
   unfolding sound
   sound-parts h = and-true (stateSound st table marks) (cursorSound st table c) h
 
-  names-progression : sound st table marks c ≡ true → ltb (c .progression) (st .progressions) ≡ true
+  names : sound st table marks c ≡ true → (isViewer v ≡ true) × (ltb (c .progression) (st .progressions) ≡ true)
   unfolding cursorSound
-  names-progression h = and-true (ltb (c .progression) (st .progressions)) (placeSound (c .place) ps) (sound-parts h .1) .0
+  names h =
+      let (viewer, rest) = and-true (isViewer v) _ (sound-parts h .1) in
+      (viewer, and-true (ltb (c .progression) (st .progressions)) (placeSound (c .place) ps) rest .0)
 
   -- what is found is a position of its progression
   found-listed : (p : Position) → found ≡ Packet p → In p ps
-  found-listed p e = found-in same (indexOf st) ps marks (asCursor (c .place)) p (ap (seek (indexOf st) marks) (sym (after-as (c .place) ps)) ∙ e)
+  found-listed p e = found-in same v (indexOf st) ps marks (asCursor (c .place)) p (ap (seek v (indexOf st) marks) (sym (after-as (c .place) ps)) ∙ e)
 
   -- and so is the packet that a step answers
   pub step-listed : (p : Position) → stepOf st table marks c .said .packet ≡ some p → In p ps
@@ -87,7 +93,7 @@ module _ (st : State) (table marks : List ℕ) (c : cursor.Cursor) where
       some-none : {q : Position} → some q ≡ none → ⊥
       some-none z = let n : _≡_ {A = ℕ} 0 1 = cc in omega arith
 
-      by : (a : Answer Position) → found ≡ a → stepBy st marks (c .progression) a .said .packet ≡ some p → In p ps
+      by : (a : Answer Position) → found ≡ a → stepBy st marks v (c .progression) a .said .packet ≡ some p → In p ps
       by (Packet q) f g = let same : q ≡ p = cc in found-listed p (f ∙ ap Packet same)
       by Ended f g = absurd (some-none (sym g))
 
@@ -96,24 +102,25 @@ module _ (st : State) (table marks : List ℕ) (c : cursor.Cursor) where
   step-sound h = rw (step-searches h) (by found refl)
     where
       by : (a : Answer Position) → found ≡ a
-          → sound st table (stepBy st marks (c .progression) a .marks) (stepBy st marks (c .progression) a .said .cursor) ≡ true
+          → sound st table (stepBy st marks v (c .progression) a .marks) (stepBy st marks v (c .progression) a .said .cursor) ≡ true
       by (Packet p) e =
-          sound-made st table (mark (indexOf st) marks p) (c .progression) (place.At p)
-          (sound-length st table (mark (indexOf st) marks p) marks (mark-length marks (indexOf st p)) ∙ sound-parts h .0)
-          (names-progression h)
+          sound-made st table (mark v (indexOf st) marks p) v (c .progression) (place.At p)
+          (sound-length st table (mark v (indexOf st) marks p) marks (mark-length v marks (indexOf st p)) ∙ sound-parts h .0)
+          (names h .0)
+          (names h .1)
           (in-is p ps (found-listed p e))
-      by Ended e = sound-made st table marks (c .progression) place.Ended (sound-parts h .0) (names-progression h) refl
+      by Ended e = sound-made st table marks v (c .progression) place.Ended (sound-parts h .0) (names h .0) (names h .1) refl
 
 -- opening gives a fresh cursor, which is sound
-module _ (st : State) (table marks : List ℕ) (k : ℕ) (h : stateSound st table marks ≡ true) where
-  pub fresh-sound : k < st .progressions → sound st table marks (freshCursor k) ≡ true
-  fresh-sound l = sound-made st table marks k place.Fresh h (lt-ltb _ _ l) refl
+module _ (st : State) (table marks : List ℕ) (v k : ℕ) (h : stateSound st table marks ≡ true) (w : isViewer v ≡ true) where
+  pub fresh-sound : k < st .progressions → sound st table marks (freshCursor v k) ≡ true
+  fresh-sound l = sound-made st table marks v k place.Fresh h w (lt-ltb _ _ l) refl
 
-  pub open-good : k < st .progressions → openOf st table marks k ≡ record { number = pos 0; cursor = some (freshCursor k) }
+  pub open-good : k < st .progressions → openOf st table marks v k ≡ record { number = pos 0; cursor = some (freshCursor v k) }
   unfolding openOf
-  open-good l = rw (h, lt-ltb _ _ l)
+  open-good l = rw (h, w, lt-ltb _ _ l)
 
   -- AN ENDED CURSOR STAYS ENDED: 0, nothing marked, and 0 again
-  pub ended-stays : k < st .progressions → stepOf st table marks (endedCursor k) ≡ record { said = record { number = pos 0; packet = none; cursor = endedCursor k }; marks = marks }
+  pub ended-stays : k < st .progressions → stepOf st table marks (endedCursor v k) ≡ record { said = record { number = pos 0; packet = none; cursor = endedCursor v k }; marks = marks }
   unfolding stepOf sound cursorSound seek
-  ended-stays l = rw (h, lt-ltb _ _ l)
+  ended-stays l = rw (h, w, lt-ltb _ _ l)

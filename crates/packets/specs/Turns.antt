@@ -5,16 +5,17 @@ use mathlib.Core.List.{List, [], _∷_, _++_, List·Memᴰ as In, Memᴰ·of-map
 use mathlib.Core.Option.{some}
 use Prim.Native.Nat.{ℕ, zero, suc, _≤_, _<_}
 use native.Mathlib.Omega.{arith}
-use lib.ListN.{length, getD, replicate}
+use lib.ListN.{length, replicate}
 use lib.Dec.{eqb}
 use lib.IntN.{ℤ, pos}
 use Rattle.laws.specs.Mapped.{map-no-repeats}
 use Rattle.laws.specs.Lists.{NoRepeats}
-use Rattle.laws.specs.Marks.{zero-free}
+use Rattle.laws.specs.Marks.{freeAt}
 use Rattle.laws.specs.Frees.{frees-most, unlisted-few}
 use Rattle.laws.specs.Runs.{Answer, Packet, Ended, stepBy, stepOf, seek, mark, toCome, step-next, unlisted, marked}
 use Rattle.laws.specs.Listing.{indexes, unlisted-all}
 use Rattle.types.specs.State.{endedCursor}
+use Rattle.types.specs.Viewers.{isViewer}
 use Rattle.packets.specs.Tile.{Sheet, needed, indexOf}
 use Rattle.packets.specs.Table.{sheetAt}
 use Rattle.types.specs.Orders.{orderOf, rangeOf, wholeTile, volume}
@@ -76,86 +77,86 @@ module _ (st : State) (table : List ℕ) where
       (once k)
 
   -- no more is left to list than marks are needed
-  few-left : (marks : List ℕ) → stateSound st table marks ≡ true → (k : ℕ) → length (unlisted (indexOf st) marks (positionsFor st table k)) ≤ needed st
-  few-left marks h k =
+  few-left : (v : ℕ) (marks : List ℕ) → stateSound st table marks ≡ true → (k : ℕ) → length (unlisted v (indexOf st) marks (positionsFor st table k)) ≤ needed st
+  few-left v marks h k =
       let d = sound-means st table marks .0 h in
       omega (
         arith,
-        frees-most (needed st) marks,
-        unlisted-few (indexOf st) (needed st) marks (positionsFor st table k) (λ p i. let b = mark-needed marks d k p i in (b, omega (arith, d .marks-long))),
+        frees-most v (needed st) marks,
+        unlisted-few v (indexOf st) (needed st) marks (positionsFor st table k) (λ p i. let b = mark-needed marks d k p i in (b, omega (arith, d .marks-long))),
       )
 
-module _ (st : State) (table : List ℕ) (k : ℕ) where
+module _ (st : State) (table : List ℕ) (v k : ℕ) (viewer : isViewer v ≡ true) where
   abbrev ps : List Position
   ps = positionsFor st table k
 
   abbrev at-place : Place → cursor.Cursor
-  at-place p = record { progression = k; place = p }
+  at-place p = record { viewer = v; progression = k; place = p }
 
   -- what is to be listed from a place on
   abbrev left : List ℕ → Place → List Position
-  left marks p = unlisted (indexOf st) marks (Calls.after p ps)
+  left marks p = unlisted v (indexOf st) marks (Calls.after p ps)
 
   -- what steps answer and leave that list l
   abbrev calledFor : List ℕ → List Position → Called
-  calledFor marks l = record { numbers = onesThenZero l; packets = l; cursor = endedCursor k; marks = marked (indexOf st) marks l }
+  calledFor marks l = record { numbers = onesThenZero l; packets = l; cursor = endedCursor v k; marks = marked v (indexOf st) marks l }
 
-  left-found : (marks : List ℕ) (p : Place) (a : Answer Position) → seek (indexOf st) marks (Calls.after p ps) ≡ a → left marks p ≡ toCome same (indexOf st) ps marks a
+  pub left-found : (marks : List ℕ) (p : Place) (a : Answer Position) → seek v (indexOf st) marks (Calls.after p ps) ≡ a → left marks p ≡ toCome same v (indexOf st) ps marks a
   unfolding stepOf
   left-found marks p a e =
-      ap (unlisted (indexOf st) marks) (after-as p ps)
-      ∙ step-next same (indexOf st) ps (once st table k) marks (asCursor p)
-      ∙ ap (λ (l : List Position). toCome same (indexOf st) ps marks (stepBy (indexOf st) marks (seek (indexOf st) marks l) .answer)) (sym (after-as p ps))
-      ∙ ap (λ (b : Answer Position). toCome same (indexOf st) ps marks (stepBy (indexOf st) marks b .answer)) e
+      ap (unlisted v (indexOf st) marks) (after-as p ps)
+      ∙ step-next same v (indexOf st) ps (once st table k) marks (asCursor p)
+      ∙ ap (λ (l : List Position). toCome same v (indexOf st) ps marks (stepBy v (indexOf st) marks (seek v (indexOf st) marks l) .answer)) (sym (after-as p ps))
+      ∙ ap (λ (b : Answer Position). toCome same v (indexOf st) ps marks (stepBy v (indexOf st) marks b .answer)) e
       ∙ same-answer a
     where
-      same-answer : (b : Answer Position) → toCome same (indexOf st) ps marks (stepBy (indexOf st) marks b .answer) ≡ toCome same (indexOf st) ps marks b
+      same-answer : (b : Answer Position) → toCome same v (indexOf st) ps marks (stepBy v (indexOf st) marks b .answer) ≡ toCome same v (indexOf st) ps marks b
       same-answer (Packet q) = refl
       same-answer Ended = refl
 
   -- one step more, by what it finds
   one-more : (n : ℕ) (marks : List ℕ) (p : Place) → sound st table marks (at-place p) ≡ true → length (left marks p) < suc n
       → ((m : List ℕ) (q : Place) → sound st table m (at-place q) ≡ true → length (left m q) < n → callSteps n st table m (at-place q) ≡ calledFor m (left m q))
-      → (a : Answer Position) → seek (indexOf st) marks (Calls.after p ps) ≡ a → callSteps (suc n) st table marks (at-place p) ≡ calledFor marks (left marks p)
+      → (a : Answer Position) → seek v (indexOf st) marks (Calls.after p ps) ≡ a → callSteps (suc n) st table marks (at-place p) ≡ calledFor marks (left marks p)
   unfolding callSteps marked
   one-more n marks p h fuel go (Packet q) e =
-      let step : Calls.stepOf st table marks (at-place p) ≡ Calls.stepBy st marks k (Packet q)
-      = step-searches st table marks (at-place p) h ∙ ap (Calls.stepBy st marks k) e in
-      let on : sound st table (mark (indexOf st) marks q) (at-place (place.At q)) ≡ true
+      let step : Calls.stepOf st table marks (at-place p) ≡ Calls.stepBy st marks v k (Packet q)
+      = step-searches st table marks (at-place p) h ∙ ap (Calls.stepBy st marks v k) e in
+      let on : sound st table (mark v (indexOf st) marks q) (at-place (place.At q)) ≡ true
       = subst (λ (u : Calls.Step). sound st table (u .marks) (u .said .cursor) ≡ true) step (step-sound st table marks (at-place p) h) in
-      let t : left marks p ≡ q ∷ left (mark (indexOf st) marks q) (place.At q) = left-found marks p (Packet q) e in
-      let fewer : length (q ∷ left (mark (indexOf st) marks q) (place.At q)) < suc n = rw t at fuel in
+      let t : left marks p ≡ q ∷ left (mark v (indexOf st) marks q) (place.At q) = left-found marks p (Packet q) e in
+      let fewer : length (q ∷ left (mark v (indexOf st) marks q) (place.At q)) < suc n = rw t at fuel in
       ap (λ (u : Calls.Step). followed u (callSteps n st table (u .marks) (u .said .cursor))) step
       ∙ ap (λ (r : Called). record { numbers = pos 1 ∷ r .numbers; packets = q ∷ r .packets; cursor = r .cursor; marks = r .marks })
-      (go (mark (indexOf st) marks q) (place.At q) on (omega arith))
+      (go (mark v (indexOf st) marks q) (place.At q) on (omega arith))
       ∙ ap (calledFor marks) (sym t)
   one-more n marks p h fuel go Ended e =
-      ap (λ (u : Calls.Step). followed u (callSteps n st table (u .marks) (u .said .cursor))) (step-searches st table marks (at-place p) h ∙ ap (Calls.stepBy st marks k) e)
+      ap (λ (u : Calls.Step). followed u (callSteps n st table (u .marks) (u .said .cursor))) (step-searches st table marks (at-place p) h ∙ ap (Calls.stepBy st marks v k) e)
       ∙ ap (calledFor marks) (sym (left-found marks p Ended e))
 
   -- enough steps from any sound cursor list what is left after it, mark it, and end
   steps-from : (n : ℕ) (marks : List ℕ) (p : Place) → sound st table marks (at-place p) ≡ true → length (left marks p) < n
       → callSteps n st table marks (at-place p) ≡ calledFor marks (left marks p)
   steps-from zero marks p h fuel = absurd (let z : ⊥ = omega arith in z)
-  steps-from (suc n) marks p h fuel = one-more n marks p h fuel (steps-from n) (seek (indexOf st) marks (Calls.after p ps)) refl
+  steps-from (suc n) marks p h fuel = one-more n marks p h fuel (steps-from n) (seek v (indexOf st) marks (Calls.after p ps)) refl
 
   -- the calls of one progression that list l
   abbrev pub turnFor : List ℕ → List Position → Turn
-  turnFor marks l = record { opening = pos 0; steps = onesThenZero l; packets = l; cursor = some (endedCursor k); marks = marked (indexOf st) marks l }
+  turnFor marks l = record { opening = pos 0; steps = onesThenZero l; packets = l; cursor = some (endedCursor v k); marks = marked v (indexOf st) marks l }
 
   -- THE CALLS OF A PROGRESSION list what has no mark
   pub turn-lists : (n : ℕ) → needed st < n → (marks : List ℕ) → stateSound st table marks ≡ true → k < st .progressions
-      → callTurn n st table marks k ≡ turnFor marks (unlisted (indexOf st) marks ps)
+      → callTurn n st table marks v k ≡ turnFor marks (unlisted v (indexOf st) marks ps)
   unfolding callTurn
   turn-lists n enough marks h l =
-      ap (λ (o : OpenSaid). turnBy (callSteps n st table marks) marks (o .number) (o .cursor)) (open-good st table marks k h l)
+      ap (λ (o : OpenSaid). turnBy (callSteps n st table marks) marks (o .number) (o .cursor)) (open-good st table marks v k h viewer l)
       ∙ ap (λ (r : Called). record { opening = pos 0; steps = r .numbers; packets = r .packets; cursor = some (r .cursor); marks = r .marks })
-      (steps-from n marks place.Fresh (fresh-sound st table marks k h l) (omega (arith, few-left st table marks h k)))
+      (steps-from n marks place.Fresh (fresh-sound st table marks v k h viewer l) (omega (arith, few-left st table v marks h k)))
 
-  -- and all of it where no mark is set
-  pub turn-all : (n : ℕ) → needed st < n → (marks : List ℕ) → stateSound st table marks ≡ true → ((i : ℕ) → i < needed st → getD marks i 0 ≡ 0) → k < st .progressions
-      → callTurn n st table marks k ≡ turnFor marks ps
+  -- and all of it where all are free
+  pub turn-all : (n : ℕ) → needed st < n → (marks : List ℕ) → stateSound st table marks ≡ true → ((i : ℕ) → i < needed st → freeAt v marks i ≡ true) → k < st .progressions
+      → callTurn n st table marks v k ≡ turnFor marks ps
   turn-all n enough marks h clear l =
       let small : (i : ℕ) → In i (indexes (indexOf st) ps) → i < needed st
       = λ i q. let r = in-of-map (indexOf st) ps q in subst (λ (j : ℕ). j < needed st) (r .2) (mark-needed st table marks (sound-means st table marks .0 h) k (r .0) (r .1)) in
-      turn-lists n enough marks h l ∙ ap (turnFor marks) (unlisted-all (indexOf st) marks ps (indexes-once st table marks h k) (λ i q. zero-free marks i (clear i (small i q))))
+      turn-lists n enough marks h l ∙ ap (turnFor marks) (unlisted-all v (indexOf st) marks ps (indexes-once st table marks h k) (λ i q. clear i (small i q)))

@@ -1,6 +1,6 @@
 -- What an accepted sheet has passed; that its state is sound and its needed marks are clear; and that the whole run is setup, followed by the calls that a host
 -- would make: every progression in turn until it ends. Assumes nothing.
-use mathlib.Core.Path.{_≡_, sym, ap, _∙_}
+use mathlib.Core.Path.{_≡_, refl, sym, ap, _∙_}
 use mathlib.Core.Bool.{true}
 use mathlib.Core.List.{List}
 use Prim.Native.Nat.{ℕ, _+_, _-_, _*_, _≤_, _<_}
@@ -10,6 +10,7 @@ use lib.Seq.{getD-append-add, getD-drop}
 use lib.Dec.{leb, eqb}
 use lib.IntN.{pos}
 use borrow.Author.Tests.{leb-true, le-leb, eqb-true, eqb-false, eq-eqb}
+use Rattle.laws.specs.Marks.{zero-free}
 use Rattle.laws.specs.Cases.{split, cond-zero}
 use Rattle.laws.specs.AllRuns.{Listing}
 use Rattle.words.specs.Words.{over}
@@ -116,9 +117,9 @@ module _ (sheet table marks : List ℕ) (bytes : Bytes sheet) (p : Passed sheet 
       let e : i ≡ length zeros + (i - needed st) = rw zeros-long (omega arith) in
       rw e (getD-append-add zeros (drop (length zeros) marks) (i - needed st) 0 ∙ getD-drop (length zeros) marks (i - needed st) 0)
 
-  -- THE WHOLE RUN IS THE RUN THAT A HOST'S CALLS MAKE, where the output has room
+  -- THE WHOLE RUN IS THE RUN THAT A HOST'S CALLS MAKE for viewer 0, where the output has room
   pub whole-run-calls : (output : List ℕ) → 16 * needed st ≤ length output
-      → (let r = hostCalls st (u .table) (u .marks) in
+      → (let r = hostCalls st (u .table) (u .marks) 0 in
       wholeRunOf sheet table marks output
       ≡ record { number = pos (length (answered r)); table = u .table; marks = r .marks; output = over (recordsOf (answered r)) output })
   unfolding wholeRunOf runVerdict ranOver hostCalls
@@ -126,4 +127,4 @@ module _ (sheet table marks : List ℕ) (bytes : Bytes sheet) (p : Passed sheet 
       let few = p .few in
       rw (passed-setup sheet table marks p, le-leb _ _ room)
       (ap (λ (r : Listing Position). record { number = pos (length (r .packets)); table = u .table; marks = r .marks; output = over (recordsOf (r .packets)) output })
-      (sym (run-listed st (u .table) (u .marks) accepted-sound mostSteps (omega arith) accepted-clear)))
+      (sym (run-listed st (u .table) 0 refl (u .marks) accepted-sound mostSteps (omega arith) (λ i h. zero-free 0 (u .marks) i (accepted-clear i h)))))

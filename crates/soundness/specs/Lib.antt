@@ -3,3 +3,4 @@ pub mod Fields
 pub mod Points
 pub mod Reached
 pub mod Reports
+pub mod Needs

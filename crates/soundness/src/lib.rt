@@ -14,6 +14,13 @@ ghost use Rattle.packets.specs.Sound as spec;
 ghost use mathlib.Core.Bool.{true};
 ghost use Rattle.packets.specs.Sound.{sheetSound, stateSound};
 ghost use Rattle.packets.specs.Tile.{needed};
+ghost use Rattle.soundness.specs.Needs.{needsOf};
+
+// How many marks a sound state needs.
+pub enum Needs {
+    Marks(u32),
+    Unsound,
+}
 
 // What is known of a state and its table.
 struct Known {
@@ -61,14 +68,29 @@ pub fn state_sound(st: State, table: &[u8], marks: &[u8]) -> bool
     known.sound & ((known.needed as usize) <= marks.len())
 }
 
-// A sound state, and a cursor of one of its progressions at a place which that admits.
+// And how many of them are needed.
+pub fn marks_needed(st: State, table: &[u8], marks: &[u8]) -> Needs
+    ensures { λ r. ⌜ r ≡ needsOf st (now (table .entry)) (now (marks .entry)) ⌝ }
+{
+    let known = judged(st, table);
+    if known.sound {
+        if (known.needed as usize) <= marks.len() {
+            return Needs::Marks(known.needed);
+        }
+    }
+    Needs::Unsound
+}
+
+// A sound state, and a cursor of a viewer in one of its progressions, at a place which that admits.
 pub fn sound(st: State, table: &[u8], marks: &[u8], cursor: Cursor) -> bool
     ensures { λ r. ⌜ r ≡ spec.sound st (now (table .entry)) (now (marks .entry)) cursor ⌝ }
 {
     if state_sound(st, table, marks) {
-        if cursor.progression < st.progressions {
-            let place = cursor.place;
-            return place::admitted(st, table, cursor.progression, place);
+        if cursor.viewer < Cursor::VIEWERS {
+            if cursor.progression < st.progressions {
+                let place = cursor.place;
+                return place::admitted(st, table, cursor.progression, place);
+            }
         }
     }
     false

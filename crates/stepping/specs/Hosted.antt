@@ -1,21 +1,16 @@
 -- Of a sound state, what the calls of all progressions leave is what all its listings leave (walks, RunAll.antt), which is the whole run. Assumes nothing.
-use mathlib.Core.Path.{_≡_, ap, _∙_, subst}
-use mathlib.Core.List.{List, map, Memᴰ·of-map as in-of-map}
-use Prim.Native.Nat.{ℕ, _+_, _≤_}
+use mathlib.Core.Path.{_≡_, refl, ap, _∙_}
+use mathlib.Core.List.{List}
+use Prim.Native.Nat.{ℕ, _≤_}
 use native.Mathlib.Omega.{arith}
 use lib.IntN.{ℤ, pos}
-use Rattle.laws.specs.Axis.{span}
-use Rattle.laws.specs.Lists.{NoRepeats}
-use Rattle.laws.specs.AllRuns.{Listing, listing, runAll, run-all, NoneRepeats}
+use Rattle.laws.specs.AllRuns.{Listing, listing}
 use Rattle.words.specs.Laws.{Bytes}
 use Rattle.packets.specs.Tile.{indexOf}
 use Rattle.packets.specs.Calls.{runVerdict}
-use Rattle.packets.specs.Sound.{positionsFor}
 use Rattle.packets.specs.Meaning.{Sound, sound-means}
-use Rattle.packets.specs.Same.{same}
 use Rattle.packets.specs.Host.{mostSteps, Hosted, callRuns}
-use Rattle.packets.specs.Turns.{once}
-use Rattle.packets.specs.Run.{listingOf, all, calls-went}
+use Rattle.packets.specs.Run.{listingOf, all, run-unlisted}
 use Rattle.types.specs.declared.state.State.{State}
 use Rattle.types.specs.declared.answer.SetUp.{SetUp}
 use Rattle.types.specs.declared.cursor.Position.{Position}
@@ -26,19 +21,11 @@ use Rattle.stepping.specs.Stepped.{written, hostedOf}
 
 module _ (st : State) (table marks output : List ℕ) (d : Sound st table marks) where
   abbrev made : Hosted
-  made = callRuns mostSteps (st .progressions) st table marks 0
-
-  all-once : NoneRepeats same (indexOf st) (all st table)
-  all-once ps i = let r = in-of-map (positionsFor st table) (span 0 (st .progressions)) i in subst (λ qs. NoRepeats qs) (r .2) (once st table (r .0))
+  made = callRuns mostSteps (st .progressions) st table marks 0 0
 
   -- the calls list what has no mark when it is reached
-  lists : listingOf made ≡ listing (indexOf st) (all st table) marks
-  lists =
-      let few = d .few in
-      let e : 0 + st .progressions ≡ st .progressions = omega arith in
-      calls-went st table marks (sound-means st table marks .1 d) mostSteps (omega arith) .lists-all
-      ∙ ap (λ (m : ℕ). runAll same (indexOf st) (map (positionsFor st table) (span 0 m)) marks) e
-      ∙ run-all same (indexOf st) (all st table) marks all-once
+  lists : listingOf made ≡ listing 0 (indexOf st) (all st table 0 refl) marks
+  lists = let few = d .few in run-unlisted st table 0 refl marks (sound-means st table marks .1 d) mostSteps (omega arith)
 
   hosted-total : hostedOf (st .progressions) st table marks 0 output 0 ≡ totalOf (indexOf st) marks output 0 (fromOn st table 0)
   unfolding hostedOf totalOf

@@ -28,13 +28,13 @@ written output n packets marks = record { count = n + length packets; marks = ma
 unfoldable pub steppedOf : ℕ → State → List ℕ → List ℕ → Cursor → List ℕ → ℕ → Total
 steppedOf most st table marks c output n = let r : Called = callSteps most st table marks c in written output n (r .packets) (r .marks)
 
--- progression k
+-- progression k, of viewer 0 as in a whole run
 unfoldable pub turnedOf : State → List ℕ → List ℕ → ℕ → List ℕ → ℕ → Total
-turnedOf st table marks k output n = let t : Turn = callTurn mostSteps st table marks k in written output n (t .packets) (t .marks)
+turnedOf st table marks k output n = let t : Turn = callTurn mostSteps st table marks 0 k in written output n (t .packets) (t .marks)
 
 -- j progressions from number k on
 unfoldable pub hostedOf : ℕ → State → List ℕ → List ℕ → ℕ → List ℕ → ℕ → Total
-hostedOf j st table marks k output n = let h : Hosted = callRuns mostSteps j st table marks k in written output n (answered h) (h .marks)
+hostedOf j st table marks k output n = let h : Hosted = callRuns mostSteps j st table marks 0 k in written output n (answered h) (h .marks)
 
 module _ (output : List ℕ) (n : ℕ) where
   -- no packet
@@ -92,7 +92,7 @@ module _ (st : State) (table marks : List ℕ) where
           ∙ written-none output n m
 
   module _ (k : ℕ) (output : List ℕ) (n : ℕ) where
-    module _ (r : Opened) (said : ofOpened r ≡ openOf st table marks k) where
+    module _ (r : Opened) (said : ofOpened r ≡ openOf st table marks 0 k) where
       abbrev afterOpened : OpenSaid → Total
       afterOpened o = let t : Turn = turnBy (callSteps mostSteps st table marks) marks (o .number) (o .cursor) in written output n (t .packets) (t .marks)
 
@@ -122,6 +122,6 @@ module _ (st : State) (table marks : List ℕ) where
         ≡ (let w = turnedOf st table marks k output n in hostedOf j st table (w .marks) (k + 1) (w .output) (w .count))
     unfolding hostedOf turnedOf callRuns gather
     hosted-next j =
-        let t : Turn = callTurn mostSteps st table marks k in
-        let h : Hosted = callRuns mostSteps j st table (t .marks) (k + 1) in
+        let t : Turn = callTurn mostSteps st table marks 0 k in
+        let h : Hosted = callRuns mostSteps j st table (t .marks) 0 (k + 1) in
         written-append output n (t .packets) (answered h) (h .marks)

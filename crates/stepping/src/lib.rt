@@ -54,14 +54,15 @@ fn step_on(
     count
 }
 
-// Opens progression k over the marks as they are, and steps through it.
+// Opens progression k as the whole run's viewer, over the marks as they are, and steps through it.
 fn turn(st: State, table: &[u8], marks: &mut [u8], output: &mut [u8], k: u32, n: u32) -> u32
     requires { ⌜ turnedOf st (now table) (now marks) k (now output) n .count ≤ 65536 ⌝ }
     ensures { λ r. ⌜ _≡_ {A = Total} (record { count = r; marks = now (marks .exit); output = now (output .exit) }) (turnedOf st (now (table .entry)) (now (marks .entry)) k (now (output .entry)) n) ⌝ }
 {
-    match open(st, table, marks, k) {
+    match open(st, table, marks, Cursor::WHOLE_RUN, k) {
         Opened::Cursor(cursor) => step_on(st, table, marks, output, cursor, n),
         Opened::Unsound => n,
+        Opened::NoViewer => n,
         Opened::NoSuch => n,
     }
 }

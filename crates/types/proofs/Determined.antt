@@ -38,6 +38,8 @@ use Rattle.types.proofs.table.entries.Kinds as entries-kinds
 use Rattle.types.proofs.table.entries.Reads as entries
 use Rattle.types.proofs.mark.is_free.Kinds as is-free-kinds
 use Rattle.types.proofs.mark.is_free.Reads as is-free
+use Rattle.types.proofs.mark.clear.Kinds as clear-kinds
+use Rattle.types.proofs.mark.clear.Reads as clear
 use Rattle.types.proofs.mark.set.Kinds as set-kinds
 use Rattle.types.proofs.mark.set.Reads as set
 
@@ -94,6 +96,9 @@ entries-determined κs a r s e f = determined _ r s
 
 pub is-free-determined : OneAnswer is-free-kinds.ps is-free-kinds.r is-free.Post
 is-free-determined κs a r s e f = determined _ r s
+
+pub clear-determined : OneOutcome clear-kinds.ps clear-kinds.r clear.Post (λ κs e. now (e .0))
+clear-determined κs a r s e f p q = (refl, determined _ _ _ p q)
 
 pub set-determined : OneOutcome set-kinds.ps set-kinds.r set.Post (λ κs e. now (e .0))
 set-determined κs a r s e f p q = (refl, determined _ _ _ p q)

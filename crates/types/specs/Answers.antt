@@ -10,6 +10,8 @@ use Rattle.types.specs.declared.answer.Verdict.the-variants as verdict
 use Rattle.types.specs.declared.answer.SetUp.{SetUp}
 use Rattle.types.specs.declared.answer.Opened.{Opened}
 use Rattle.types.specs.declared.answer.Opened.the-variants as opened
+use Rattle.types.specs.declared.answer.Joined.{Joined}
+use Rattle.types.specs.declared.answer.Joined.the-variants as joined
 use Rattle.types.specs.declared.answer.Stepped.{Stepped}
 use Rattle.types.specs.declared.answer.Stepped.the-variants as stepped
 use Rattle.types.specs.declared.answer.Located.{Located}
@@ -35,7 +37,7 @@ pub record SetUpSaid : Type 0 where
 abbrev pub ofSetUp : SetUp → SetUpSaid
 ofSetUp r = record { number = numberOf (r .verdict); state = r .state }
 
--- open: a cursor, -9 or -11
+-- open: a cursor, -9, -15 (02, P4) or -11
 pub record OpenSaid : Type 0 where
   pub number : ℤ
   pub cursor : Option Cursor
@@ -43,7 +45,14 @@ pub record OpenSaid : Type 0 where
 abbrev pub ofOpened : Opened → OpenSaid
 ofOpened (opened.Cursor c) = record { number = pos 0; cursor = some c }
 ofOpened opened.Unsound = record { number = negsuc 8; cursor = none }
+ofOpened opened.NoViewer = record { number = negsuc 14; cursor = none }
 ofOpened opened.NoSuch = record { number = negsuc 10; cursor = none }
+
+-- 02, P4: join, 0, -9 or -15
+abbrev pub ofJoined : Joined → ℤ
+ofJoined joined.Done = pos 0
+ofJoined joined.Unsound = negsuc 8
+ofJoined joined.NoViewer = negsuc 14
 
 -- step: 1 with the packet and the moved cursor, 0 with the ended cursor, -9 with the cursor as given
 pub record StepSaid : Type 0 where

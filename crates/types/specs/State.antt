@@ -35,12 +35,12 @@ emptyState =
       reports = noReports;
     }
 
--- 01, 'A cursor names its progression and is fresh, ended, or stands at a position'
-abbrev pub freshCursor : ℕ → Cursor
-freshCursor k = record { progression = k; place = Fresh }
+-- 01, 'A cursor names its progression and is fresh, ended, or stands at a position'; 02, P4: and it names its viewer
+abbrev pub freshCursor : ℕ → ℕ → Cursor
+freshCursor v k = record { viewer = v; progression = k; place = Fresh }
 
-abbrev pub endedCursor : ℕ → Cursor
-endedCursor k = record { progression = k; place = Ended }
+abbrev pub endedCursor : ℕ → ℕ → Cursor
+endedCursor v k = record { viewer = v; progression = k; place = Ended }
 
 -- the position whose numbers are all 0: where a nest of loops starts
 abbrev pub origin : Position

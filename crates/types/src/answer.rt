@@ -53,8 +53,20 @@ pub enum Opened {
     Cursor(Cursor),
     // -9
     Unsound,
+    // -15
+    NoViewer,
     // -11
     NoSuch,
+}
+
+// Joining: a viewer's bits of the needed marks are cleared (02, P4).
+pub enum Joined {
+    // 0
+    Done,
+    // -9
+    Unsound,
+    // -15
+    NoViewer,
 }
 
 pub enum Stepped {

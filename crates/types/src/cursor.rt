@@ -19,27 +19,37 @@ pub enum Place {
 }
 
 pub struct Cursor {
+    // the viewer by whose bit of the marks it goes, from 0
+    pub viewer: u32,
     // the number of its progression, from 0
     pub progression: u32,
     pub place: Place,
 }
 
 impl Cursor {
+    // how many viewers follow a tile
+    pub const VIEWERS: u32 = 8;
+
+    // whose the whole run is
+    pub const WHOLE_RUN: u32 = 0;
+
     // Before the first position.
-    pub fn fresh(progression: u32) -> Self
-        ensures { λ r. ⌜ r ≡ freshCursor progression ⌝ }
+    pub fn fresh(viewer: u32, progression: u32) -> Self
+        ensures { λ r. ⌜ r ≡ freshCursor viewer progression ⌝ }
     {
         Cursor {
+            viewer,
             progression,
             place: Place::Fresh,
         }
     }
 
     // After the last position, for good.
-    pub fn ended(progression: u32) -> Self
-        ensures { λ r. ⌜ r ≡ endedCursor progression ⌝ }
+    pub fn ended(viewer: u32, progression: u32) -> Self
+        ensures { λ r. ⌜ r ≡ endedCursor viewer progression ⌝ }
     {
         Cursor {
+            viewer,
             progression,
             place: Place::Ended,
         }

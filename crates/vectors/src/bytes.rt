@@ -72,6 +72,13 @@ pub(crate) fn put(s: &mut [u8], at: usize, v: u8) {
     }
 }
 
+// Sets bits of the byte at a place.
+pub(crate) fn add_bits(s: &mut [u8], at: usize, bits: u8) {
+    if at < s.len() {
+        s[at] = s[at] | bits;
+    }
+}
+
 // Changes bits of the byte at a place.
 pub(crate) fn flip(s: &mut [u8], at: usize, bits: u8) {
     if at < s.len() {

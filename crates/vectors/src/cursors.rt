@@ -48,19 +48,24 @@ fn changed_position(entry: &[u8], change: u32) -> Position {
     }
 }
 
-fn changed(entry: &[u8], change: u32) -> Cursor {
+fn changed(viewer: u32, entry: &[u8], change: u32) -> Cursor {
     let p = changed_position(entry, change);
     Cursor {
+        viewer,
         progression: field(entry, 0, change),
         place: Place::At(p),
     }
 }
 
-// The cursor that comes from a progression's number, or from a position's (counted from 0) with a change.
-pub(crate) fn named(positions: &[u8], number: u32, change: u32) -> Cursor {
+// The cursor of a viewer that comes from a progression's number, or from a position's (counted from 0) with a change.
+pub(crate) fn named(positions: &[u8], viewer: u32, number: u32, change: u32) -> Cursor {
     match change {
-        FRESH => Cursor::fresh(number),
-        ENDED => Cursor::ended(number),
-        _ => changed(bytes::part(positions, 28 * (number as usize), 28), change),
+        FRESH => Cursor::fresh(viewer, number),
+        ENDED => Cursor::ended(viewer, number),
+        _ => changed(
+            viewer,
+            bytes::part(positions, 28 * (number as usize), 28),
+            change,
+        ),
     }
 }

@@ -38,7 +38,7 @@ fn put_sheet(sheet: &mut [u8]) {
 // Whether a step answers 0, with the ended cursor.
 fn ends(st: State, table: &[u8], marks: &mut [u8], cursor: Cursor) -> bool {
     match lent::step(st, table, marks, 8, cursor) {
-        Stepped::Ended(c) => same::cursor(c, Cursor::ended(0)),
+        Stepped::Ended(c) => same::cursor(c, Cursor::ended(0, 0)),
         Stepped::Packet(_, _) => false,
         Stepped::Unsound(_) => false,
     }
@@ -51,8 +51,18 @@ fn stays_dead() -> bool {
     let mut marks = [FILL; MARKS];
     let up = lent::setup(&s, &mut table, 32, &mut marks, 8);
     let st = up.state;
-    let first = ends(st, lent::inside(&table, 32), &mut marks, Cursor::fresh(0));
-    let second = ends(st, lent::inside(&table, 32), &mut marks, Cursor::ended(0));
+    let first = ends(
+        st,
+        lent::inside(&table, 32),
+        &mut marks,
+        Cursor::fresh(0, 0),
+    );
+    let second = ends(
+        st,
+        lent::inside(&table, 32),
+        &mut marks,
+        Cursor::ended(0, 0),
+    );
     setups::says(up, 0)
         & first
         & second

@@ -1,5 +1,6 @@
 // What is lent stands in a larger buffer, between guard bytes that must not change.
 use crate::bytes;
+use types::answer::Joined;
 use types::answer::Opened;
 use types::answer::SetUp;
 use types::answer::Stepped;
@@ -139,7 +140,20 @@ pub(crate) fn open(
     table: &[u8],
     marks: &[u8],
     mark_bytes: usize,
+    viewer: u32,
     progression: u32,
 ) -> Opened {
-    calls::open::open(st, table, inside(marks, mark_bytes), progression)
+    calls::open::open(st, table, inside(marks, mark_bytes), viewer, progression)
+}
+
+pub(crate) fn join(
+    st: State,
+    table: &[u8],
+    marks: &mut [u8],
+    mark_bytes: usize,
+    viewer: u32,
+) -> Joined {
+    let m0 = start_of(marks);
+    let m1 = end_of(marks, mark_bytes);
+    calls::join::join(st, table, &mut marks[m0..m1], viewer)
 }

@@ -13,6 +13,7 @@ mod same;
 mod setups;
 mod steps;
 mod tally;
+mod traces;
 mod walked;
 mod whole;
 
@@ -32,6 +33,7 @@ fn right(kind: u32, rest: &[u8]) -> bool {
         2 => numbers::tile_bounds(rest),
         3 => numbers::arithmetic(rest),
         4 => limits::right(rest),
+        7 => traces::right(rest),
         _ => false,
     }
 }
@@ -93,5 +95,6 @@ fn main() {
     replay(b"model", 4, b"limits");
     replay(b"model", 5, b"steps");
     replay(b"model", 6, b"rectangles");
+    replay(b"model", 7, b"traces of eight viewers");
     dead_feed::dead_feed();
 }

@@ -37,7 +37,7 @@ pub(crate) fn place(a: Place, b: Place) -> bool {
 pub(crate) fn cursor(a: Cursor, b: Cursor) -> bool {
     let p = a.place;
     let q = b.place;
-    (a.progression == b.progression) & place(p, q)
+    (a.viewer == b.viewer) & (a.progression == b.progression) & place(p, q)
 }
 
 fn no_progression(p: Progression) -> bool {

@@ -11,6 +11,7 @@ use crate::lent::SMALL;
 use crate::same;
 use crate::setups;
 use crate::tally::Tally;
+use crate::walked::bit_of;
 use crate::walked::mark_of;
 use types::answer::Stepped;
 use types::cursor::Cursor;
@@ -44,12 +45,12 @@ fn cursors_of(rest: &[u8]) -> &[u8] {
     bytes::part(
         rest,
         lists_at(rest) + 28 * length(rest, 3),
-        12 * length(rest, 4),
+        16 * length(rest, 4),
     )
 }
 
 fn alterations_of(rest: &[u8]) -> &[u8] {
-    let at = lists_at(rest) + 28 * length(rest, 3) + 12 * length(rest, 4);
+    let at = lists_at(rest) + 28 * length(rest, 3) + 16 * length(rest, 4);
     bytes::part(rest, at, 20 * length(rest, 5))
 }
 
@@ -61,8 +62,8 @@ struct Trial {
     bits: u8,
 }
 
-// Sets the mark of the packet that is expected, if one is.
-fn mark_found(st: State, found: &[u8], marks: &mut [u8]) {
+// Sets a viewer's bit in the mark of the packet that is expected, if one is.
+fn mark_found(st: State, found: &[u8], viewer: u32, marks: &mut [u8]) {
     if found.len() == 28 {
         let index = mark_of(
             st,
@@ -71,17 +72,18 @@ fn mark_found(st: State, found: &[u8], marks: &mut [u8]) {
             word(found, 3),
             word(found, 4),
         );
-        bytes::put(marks, index, 1);
+        bytes::add_bits(marks, index, bit_of(viewer));
     }
 }
 
 // Whether a step from a cursor answers what is expected: the packet found with the cursor moved to it, or 0 with the ended cursor, or -9 with
 // the cursor as given.
-fn answers(said: Stepped, given: Cursor, outcome: u32, found: &[u8]) -> bool {
+pub(crate) fn answers(said: Stepped, given: Cursor, outcome: u32, found: &[u8]) -> bool {
     let k = given.progression;
     match said {
         Stepped::Packet(p, moved) => {
             let next = Cursor {
+                viewer: given.viewer,
                 progression: k,
                 place: Place::At(p),
             };
@@ -90,7 +92,7 @@ fn answers(said: Stepped, given: Cursor, outcome: u32, found: &[u8]) -> bool {
                 & same::position(p, cursors::position(found))
                 & same::cursor(moved, next)
         }
-        Stepped::Ended(last) => (outcome == 0) & same::cursor(last, Cursor::ended(k)),
+        Stepped::Ended(last) => (outcome == 0) & same::cursor(last, Cursor::ended(given.viewer, k)),
         Stepped::Unsound(kept) => (outcome == UNSOUND) & same::cursor(kept, given),
     }
 }
@@ -111,22 +113,27 @@ fn right(rest: &[u8], trial: Trial, cursor: Cursor, outcome: u32) -> bool {
     lent::flip(&mut table, trial.at, trial.bits);
     let found = cursors::listed(positions_of(rest), outcome);
     let mut expected = marks;
-    mark_found(st, found, &mut expected);
+    mark_found(st, found, cursor.viewer, &mut expected);
     let part = lent::inside(&table, trial.table_bytes);
     let said = lent::step(st, part, &mut marks, trial.mark_bytes, cursor);
     setups::says(up, 0) & answers(said, cursor, outcome, found) & bytes::same(&marks, &expected)
 }
 
-// An entry of the cursors: what it comes from, how, and the outcome.
+// An entry of the cursors: its viewer, what it comes from, how, and the outcome.
 fn from_cursor(rest: &[u8], entry: &[u8]) -> bool {
-    let cursor = cursors::named(positions_of(rest), word(entry, 0), word(entry, 1));
+    let cursor = cursors::named(
+        positions_of(rest),
+        word(entry, 0),
+        word(entry, 1),
+        word(entry, 2),
+    );
     let trial = Trial {
         table_bytes: length(rest, 2),
         mark_bytes: length(rest, 1),
         at: 0,
         bits: 0,
     };
-    right(rest, trial, cursor, word(entry, 2))
+    right(rest, trial, cursor, word(entry, 3))
 }
 
 // An entry of the alterations: bytes of the table and marks lent, a place in the table, the bits to change there, and the outcome.
@@ -137,16 +144,16 @@ fn altered(rest: &[u8], entry: &[u8]) -> bool {
         at: length(entry, 2),
         bits: bytes::byte(entry, 15),
     };
-    right(rest, trial, Cursor::fresh(0), word(entry, 4))
+    right(rest, trial, Cursor::fresh(0, 0), word(entry, 4))
 }
 
 fn cursors(rest: &[u8], so_far: Tally) -> Tally {
     let list = cursors_of(rest);
-    let count = list.len() / 12;
+    let count = list.len() / 16;
     let mut tally = so_far;
     let mut i = 0;
     while i < count {
-        tally = tally.with(from_cursor(rest, bytes::part(list, 12 * i, 12)));
+        tally = tally.with(from_cursor(rest, bytes::part(list, 16 * i, 16)));
         i += 1;
     }
     tally

@@ -28,6 +28,11 @@ struct Listing {
 // No stored sheet has more packets.
 const MOST: u32 = 65_536;
 
+// The bit of a mark that a viewer owns.
+pub(crate) fn bit_of(viewer: u32) -> u8 {
+    if viewer < 8 { 1u8 << viewer } else { 0 }
+}
+
 // The index of a packet's mark in its buffer, by document 01's strides.
 pub(crate) fn mark_of(st: State, layno: u32, resno: u32, compno: u32, precno: u32) -> usize {
     let resolution = wrapping_mul(st.components, st.reports.max_prec);
@@ -82,13 +87,14 @@ fn turn(
     match lent::step(st, table, marks, needed, cursor) {
         Stepped::Packet(p, moved) => {
             let next = Cursor {
+                viewer: 0,
                 progression: k,
                 place: Place::At(p),
             };
             let right = listed(packets, so_far.count, p) & same::cursor(moved, next);
             so_far.packet(right, moved)
         }
-        Stepped::Ended(last) => so_far.ended(same::cursor(last, Cursor::ended(k)), last),
+        Stepped::Ended(last) => so_far.ended(same::cursor(last, Cursor::ended(0, k)), last),
         Stepped::Unsound(last) => so_far.ended(false, last),
     }
 }
@@ -124,11 +130,11 @@ fn progression(
     k: u32,
     so_far: Listing,
 ) -> Listing {
-    match lent::open(st, table, marks, needed, k) {
+    match lent::open(st, table, marks, needed, 0, k) {
         Opened::Cursor(c) => {
             let opened = Listing {
                 count: so_far.count,
-                right: so_far.right & same::cursor(c, Cursor::fresh(k)),
+                right: so_far.right & same::cursor(c, Cursor::fresh(0, k)),
                 going: true,
                 cursor: c,
             };
@@ -137,8 +143,9 @@ fn progression(
             let last = again.cursor;
             again.ended(!again.going, last)
         }
-        Opened::Unsound => so_far.ended(false, Cursor::ended(k)),
-        Opened::NoSuch => so_far.ended(false, Cursor::ended(k)),
+        Opened::Unsound => so_far.ended(false, Cursor::ended(0, k)),
+        Opened::NoViewer => so_far.ended(false, Cursor::ended(0, k)),
+        Opened::NoSuch => so_far.ended(false, Cursor::ended(0, k)),
     }
 }
 
@@ -148,7 +155,7 @@ fn all(st: State, table: &[u8], marks: &mut [u8], needed: usize, packets: &[u8])
         count: 0,
         right: true,
         going: true,
-        cursor: Cursor::fresh(0),
+        cursor: Cursor::fresh(0, 0),
     };
     let mut k: u32 = 0;
     while k < progressions {
@@ -160,10 +167,11 @@ fn all(st: State, table: &[u8], marks: &mut [u8], needed: usize, packets: &[u8])
 
 // Opening one progression more than there are: -11.
 fn no_such(st: State, table: &[u8], marks: &[u8], needed: usize) -> bool {
-    match lent::open(st, table, marks, needed, st.progressions) {
+    match lent::open(st, table, marks, needed, 0, st.progressions) {
         Opened::NoSuch => true,
         Opened::Cursor(_) => false,
         Opened::Unsound => false,
+        Opened::NoViewer => false,
     }
 }
 

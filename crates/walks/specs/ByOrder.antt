@@ -36,9 +36,9 @@ module _ (st : State) (table : List ℕ) (k : ℕ) (plan : Plan) (marks : List �
     whole-of : leftFrom s g o (firstOf (plan .walk)) ≡ positionsFor st table k
     whole-of = ap (λ (x : Order). leftFrom s g x (firstOf (plan .walk))) (sym e) ∙ fresh-left st table k plan marks d
 
-    pub few-of : (m : ℕ) → m + length (unlisted (indexOf st) marks (positionsFor st table k)) ≤ 65536
-        → m + length (unlisted (indexOf st) marks (leftFrom s g o (firstOf (plan .walk)))) ≤ 65536
-    few-of m f = subst (λ (l : List Position). m + length (unlisted (indexOf st) marks l) ≤ 65536) (sym whole-of) f
+    pub few-of : (m : ℕ) → m + length (unlisted 0 (indexOf st) marks (positionsFor st table k)) ≤ 65536
+        → m + length (unlisted 0 (indexOf st) marks (leftFrom s g o (firstOf (plan .walk)))) ≤ 65536
+    few-of m f = subst (λ (l : List Position). m + length (unlisted 0 (indexOf st) marks l) ≤ 65536) (sym whole-of) f
 
     pub listed-of : (output : List ℕ) (m : ℕ) {t : Total}
         → t ≡ totalOf (indexOf st) marks output m (leftFrom s g o (firstOf (plan .walk)))

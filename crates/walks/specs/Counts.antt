@@ -100,7 +100,7 @@ module _ (s : Sheet) (g : Range) (counts : List ℕ) (w : Walk) (marks : List �
       mark-is = same-mark s g w marks (counted .ranged) (counted .good) (placeOf l r c k) inside (t .level .layer)
 
       -- it is the next of its component's, and what is read of its mark is what the sheet's index finds
-      pub mark-read : (i : ℕ) (f t : Bool) → i ≡ indexBy w l r c k → f ≡ freeAt marks i → f ≡ t
-          → (leftK l r c k s g ≡ placeOf l r c k ∷ leftK l r c (k + 1) s g) × (freeAt marks (indexOf (s .st) (placeOf l r c k)) ≡ t)
-      mark-read i f u a b d =
-          (inK s g l r c k below, reads-mark s g w marks (counted .ranged) (counted .good) (placeOf l r c k) inside (t .level .layer) i f u a b d)
+      pub mark-read : (v i : ℕ) (f t : Bool) → i ≡ indexBy w l r c k → f ≡ freeAt v marks i → f ≡ t
+          → (leftK l r c k s g ≡ placeOf l r c k ∷ leftK l r c (k + 1) s g) × (freeAt v marks (indexOf (s .st) (placeOf l r c k)) ≡ t)
+      mark-read v i f u a b d =
+          (inK s g l r c k below, reads-mark s g w marks (counted .ranged) (counted .good) (placeOf l r c k) inside (t .level .layer) v i f u a b d)

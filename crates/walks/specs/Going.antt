@@ -1,4 +1,4 @@
--- What every loop of a walk keeps, for every sheet and range that the walk is ready for: nothing is found yet, and what is still to be searched answers as what
+-- What every loop of a walk for viewer v keeps, for every sheet and range that the walk is ready for: nothing is found yet, and what is still to be searched answers as what
 -- was to be searched at entry. What is left is a part in front and then a rest; a turn takes the part apart, passes it, or finds a packet in it. Assumes nothing.
 use mathlib.Core.Path.{_≡_, refl, sym, ap, _∙_}
 use mathlib.Core.Bool.{true, false}
@@ -26,10 +26,10 @@ infixr 5 _then_
 unfoldable pub _then_ : Rest → Rest → Rest
 _then_ a b s g = a s g ++ b s g
 
-module _ (Ready : Readiness) (marks : List ℕ) (entry : Rest) where
+module _ (v : ℕ) (Ready : Readiness) (marks : List ℕ) (entry : Rest) where
   pub record Going (f : Found) (rest : Rest) : Type 0 where
     pub not-yet : f ≡ Nothing
-    pub same : (s : Sheet) (g : Range) → Ready s g → seek (indexOf (s .st)) marks (entry s g) ≡ seek (indexOf (s .st)) marks (rest s g)
+    pub same : (s : Sheet) (g : Range) → Ready s g → seek v (indexOf (s .st)) marks (entry s g) ≡ seek v (indexOf (s .st)) marks (rest s g)
 
   pub starts : Going Nothing entry
   starts = record { not-yet = refl; same = λ s g h. refl }
@@ -37,7 +37,7 @@ module _ (Ready : Readiness) (marks : List ℕ) (entry : Rest) where
   module _ {f : Found} (a : Rest) (w : Going f a) where
     -- what is left, written in another way
     pub onward : (b : Rest) → ((s : Sheet) (g : Range) → Ready s g → a s g ≡ b s g) → Going f b
-    onward b e = record { not-yet = w .not-yet; same = λ s g h. w .same s g h ∙ ap (seek (indexOf (s .st)) marks) (e s g h) }
+    onward b e = record { not-yet = w .not-yet; same = λ s g h. w .same s g h ∙ ap (seek v (indexOf (s .st)) marks) (e s g h) }
 
     -- it is two parts
     pub splits : (b d : Rest) → ((s : Sheet) (g : Range) → Ready s g → a s g ≡ b s g ++ d s g) → Going f (b then d)
@@ -46,9 +46,9 @@ module _ (Ready : Readiness) (marks : List ℕ) (entry : Rest) where
 
     -- nothing is left: nothing is found
     pub ends : ((s : Sheet) (g : Range) → Ready s g → a s g ≡ []) → (s : Sheet) (g : Range) → Ready s g
-        → answerOf f ≡ seek (indexOf (s .st)) marks (entry s g)
+        → answerOf f ≡ seek v (indexOf (s .st)) marks (entry s g)
     unfolding seek
-    ends e s g h = rw (w .not-yet) (sym (w .same s g h ∙ ap (seek (indexOf (s .st)) marks) (e s g h)))
+    ends e s g h = rw (w .not-yet) (sym (w .same s g h ∙ ap (seek v (indexOf (s .st)) marks) (e s g h)))
 
   -- THE PART IN FRONT
   module _ {f : Found} (a o : Rest) (w : Going f (a then o)) where
@@ -70,12 +70,12 @@ module _ (Ready : Readiness) (marks : List ℕ) (entry : Rest) where
 
     -- its first position has a mark, and the search goes on after it; or it has none, and is found
     module _ (b : Rest) (p : Position) where
-      pub passes : ((s : Sheet) (g : Range) → Ready s g → (a s g ≡ p ∷ b s g) × (freeAt marks (indexOf (s .st) p) ≡ false)) → Going f (b then o)
+      pub passes : ((s : Sheet) (g : Range) → Ready s g → (a s g ≡ p ∷ b s g) × (freeAt v marks (indexOf (s .st) p) ≡ false)) → Going f (b then o)
       unfolding _then_
       passes e =
-          record { not-yet = w .not-yet; same = λ s g h. w .same s g h ∙ rw (e s g h .0) (seek-taken (indexOf (s .st)) marks p (b s g ++ o s g) (e s g h .1)) }
+          record { not-yet = w .not-yet; same = λ s g h. w .same s g h ∙ rw (e s g h .0) (seek-taken v (indexOf (s .st)) marks p (b s g ++ o s g) (e s g h .1)) }
 
-      pub finds : ((s : Sheet) (g : Range) → Ready s g → (a s g ≡ p ∷ b s g) × (freeAt marks (indexOf (s .st) p) ≡ true))
-          → (s : Sheet) (g : Range) → Ready s g → Packet p ≡ seek (indexOf (s .st)) marks (entry s g)
+      pub finds : ((s : Sheet) (g : Range) → Ready s g → (a s g ≡ p ∷ b s g) × (freeAt v marks (indexOf (s .st) p) ≡ true))
+          → (s : Sheet) (g : Range) → Ready s g → Packet p ≡ seek v (indexOf (s .st)) marks (entry s g)
       unfolding _then_
-      finds e s g h = sym (w .same s g h ∙ rw (e s g h .0) (seek-free (indexOf (s .st)) marks p (b s g ++ o s g) (e s g h .1)))
+      finds e s g h = sym (w .same s g h ∙ rw (e s g h .0) (seek-free v (indexOf (s .st)) marks p (b s g ++ o s g) (e s g h .1)))

@@ -21,17 +21,17 @@ use Rattle.walks.specs.declared.walk.Walk.{Walk}
 -- a packet is marked and written as record n, unless it is marked
 unfoldable pub listedOne : Walk → Position → List ℕ → List ℕ → ℕ → Total
 listedOne w p m o n =
-    cond (freeAt m (markBy w p))
-    (record { count = n + 1; marks = markAt m (markBy w p); output = putPacket o (16 * n) p })
+    cond (freeAt 0 m (markBy w p))
+    (record { count = n + 1; marks = markAt 0 m (markBy w p); output = putPacket o (16 * n) p })
     (record { count = n; marks = m; output = o })
 
 module _ (w : Walk) (p : Position) (m o : List ℕ) (n : ℕ) where
-  pub listed-free : freeAt m (markBy w p) ≡ true
-      → record { count = n + 1; marks = markAt m (markBy w p); output = putPacket o (16 * n) p } ≡ listedOne w p m o n
+  pub listed-free : freeAt 0 m (markBy w p) ≡ true
+      → record { count = n + 1; marks = markAt 0 m (markBy w p); output = putPacket o (16 * n) p } ≡ listedOne w p m o n
   unfolding listedOne
   listed-free e = rw e
 
-  pub listed-taken : freeAt m (markBy w p) ≡ false → record { count = n; marks = m; output = o } ≡ listedOne w p m o n
+  pub listed-taken : freeAt 0 m (markBy w p) ≡ false → record { count = n; marks = m; output = o } ≡ listedOne w p m o n
   unfolding listedOne
   listed-taken e = rw e
 
@@ -40,16 +40,16 @@ module _ (w : Walk) (p : Position) (m o : List ℕ) (n : ℕ) where
       → totalOf ix m o n (p ∷ ps) ≡ (let t = listedOne w p m o n in totalOf ix (t .marks) (t .output) (t .count) ps)
   unfolding listedOne totalOf marked putPackets
   total-one ix e ps =
-      split (freeAt m (ix p))
+      split (freeAt 0 m (ix p))
       (λ t.
-      let u : List Position = unlisted ix (mark ix m p) ps in
+      let u : List Position = unlisted 0 ix (mark 0 ix m p) ps in
       let c : n + length (p ∷ u) ≡ n + 1 + length u = omega arith in
-      rw (e, t, unlisted-free ix m p ps t) (ap (λ (k : ℕ). record { count = k; marks = marked ix (mark ix m p) u; output = putPackets (putPacket o (16 * n) p) (n + 1) u }) c))
-      (λ t. rw (e, t, unlisted-taken ix m p ps t))
+      rw (e, t, unlisted-free 0 ix m p ps t) (ap (λ (k : ℕ). record { count = k; marks = marked 0 ix (mark 0 ix m p) u; output = putPackets (putPacket o (16 * n) p) (n + 1) u }) c))
+      (λ t. rw (e, t, unlisted-taken 0 ix m p ps t))
 
 -- a listing is ready for some sheet and range, and its packets are few
 abbrev pub SomeListing : Readiness → Rest → List ℕ → ℕ → Type 0
-SomeListing Ready entry marks n = (s : Sheet) × ((g : Range) × Ready s g × (n + length (unlisted (indexOf (s .st)) marks (entry s g)) ≤ 65536))
+SomeListing Ready entry marks n = (s : Sheet) × ((g : Range) × Ready s g × (n + length (unlisted 0 (indexOf (s .st)) marks (entry s g)) ≤ 65536))
 
 module _ (Ready : Readiness) (marks₀ output₀ : List ℕ) (n₀ : ℕ) (entry : Rest) where
   pub record Listing (marks output : List ℕ) (n : ℕ) (rest : Rest) : Type 0 where
@@ -100,20 +100,20 @@ module _ (Ready : Readiness) (marks₀ output₀ : List ℕ) (n₀ : ℕ) (entry
         }
 
     -- few packets are listed so far, and will be
-    pub few-still : (s : Sheet) (g : Range) → Ready s g → n₀ + length (unlisted (indexOf (s .st)) marks₀ (entry s g)) ≤ 65536
-        → n + length (unlisted (indexOf (s .st)) marks (a s g)) ≤ 65536
+    pub few-still : (s : Sheet) (g : Range) → Ready s g → n₀ + length (unlisted 0 (indexOf (s .st)) marks₀ (entry s g)) ≤ 65536
+        → n + length (unlisted 0 (indexOf (s .st)) marks (a s g)) ≤ 65536
     unfolding totalOf
     few-still s g h few = let e = ap (λ (u : Total). u .count) (t .same s g h) in omega (arith, e, few)
 
     -- .. and so are those of a part
     pub few-part : (part b : List Position) (s : Sheet) (g : Range) → Ready s g → a s g ≡ part ++ b
-        → n₀ + length (unlisted (indexOf (s .st)) marks₀ (entry s g)) ≤ 65536 → n + length (unlisted (indexOf (s .st)) marks part) ≤ 65536
+        → n₀ + length (unlisted 0 (indexOf (s .st)) marks₀ (entry s g)) ≤ 65536 → n + length (unlisted 0 (indexOf (s .st)) marks part) ≤ 65536
     unfolding totalOf
     few-part part b s g h e few =
         let k = ap (λ (u : Total). u .count) (ap (totalOf (indexOf (s .st)) marks output n) e ∙ total-append (indexOf (s .st)) marks output n part b) in
         omega (arith, k, few-still s g h few)
 
-    pub listed-few : (s : Sheet) (g : Range) → Ready s g → n₀ + length (unlisted (indexOf (s .st)) marks₀ (entry s g)) ≤ 65536 → n ≤ 65536
+    pub listed-few : (s : Sheet) (g : Range) → Ready s g → n₀ + length (unlisted 0 (indexOf (s .st)) marks₀ (entry s g)) ≤ 65536 → n ≤ 65536
     listed-few s g h few = omega (arith, few-still s g h few)
 
     -- nothing is left

@@ -35,5 +35,5 @@ module _ (s : Sheet) (g : Range) (w : Walk) (marks : List ℕ) (q : Ranged s g w
   has-mark = omega (arith, below-needed, q .enough)
 
   -- what reading it says
-  pub reads-mark : (i : ℕ) (f t : Bool) → i ≡ markBy w p → f ≡ freeAt marks i → f ≡ t → freeAt marks (indexOf (s .st) p) ≡ t
-  reads-mark i f t a b d = ap (freeAt marks) (sym (a ∙ same-mark)) ∙ sym b ∙ d
+  pub reads-mark : (v i : ℕ) (f t : Bool) → i ≡ markBy w p → f ≡ freeAt v marks i → f ≡ t → freeAt v marks (indexOf (s .st) p) ≡ t
+  reads-mark v i f t a b d = ap (freeAt v marks) (sym (a ∙ same-mark)) ∙ sym b ∙ d

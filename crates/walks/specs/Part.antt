@@ -17,6 +17,7 @@ partOf g r0 r1 c0 c1 = record { layno1 = g .layno1; resno0 = r0; resno1 = r1; co
 abbrev pub partBy : Walk → ℕ → ℕ → ℕ → ℕ → Walk
 partBy w r0 r1 c0 c1 =
     record {
+      viewer = w .viewer;
       layno1 = w .layno1;
       resno0 = r0;
       resno1 = r1;

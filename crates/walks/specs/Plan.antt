@@ -36,10 +36,11 @@ use Rattle.walks.specs.Search.{leftFrom, firstOf, nextTry, Startable, so
 use Rattle.walks.specs.declared.walk.Walk.{Walk}
 use Rattle.walks.specs.declared.plan.Plan.{Plan}
 
--- the walk of a range over a state's tile
-abbrev pub walkFor : State → Range → Walk
-walkFor st g =
+-- the walk of viewer v over a range of a state's tile
+abbrev pub walkFor : State → Range → ℕ → Walk
+walkFor st g v =
     record {
+      viewer = v;
       layno1 = g .layno1;
       resno0 = g .resno0;
       resno1 = g .resno1;
@@ -79,7 +80,11 @@ pub record Planned (st : State) (table : List ℕ) (k : ℕ) (plan : Plan) (mark
   pub sound : Sound st table marks
   pub known : k < st .progressions
   pub order : plan .order ≡ orderIn st (changeOf st k)
-  pub walk : plan .walk ≡ walkFor st (goesOver st (changeOf st k))
+  pub walk : plan .walk ≡ walkFor st (goesOver st (changeOf st k)) (plan .walk .viewer)
+
+-- a walk that was made for a viewer is his
+pub planned-walk : (st : State) (g : Range) (w : Walk) (v : ℕ) → w ≡ walkFor st g v → w ≡ walkFor st g (w .viewer)
+planned-walk st g w v e = e ∙ ap (walkFor st g) (sym (ap (λ (x : Walk). x .viewer) e))
 
 -- there is an order or none
 dec-other : (o : Order) → Dec (o ≡ other)

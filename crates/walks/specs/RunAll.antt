@@ -3,13 +3,15 @@ use mathlib.Core.Path.{_≡_, refl, sym, ap, _∙_, subst}
 use mathlib.Core.List.{List, [], _++_, map, List·Memᴰ as In, Memᴰ·of-map as in-of-map}
 use native.Mathlib.Omega.{arith}
 use Prim.Native.Nat.{ℕ, _+_, _*_, _≤_, _<_}
-use lib.ListN.{length, getD}
+use lib.ListN.{length}
+use mathlib.Core.Bool.{true}
 use Rattle.laws.specs.Axis.{span}
 use Rattle.laws.specs.Spans.{span-head, span-end}
 use Rattle.laws.specs.Gather.{gather, gather-map}
 use Rattle.laws.specs.Gathered.{gathered-all}
 use Rattle.laws.specs.Runs.{unlisted, marked}
 use Rattle.laws.specs.AllRuns.{joined, unlisted-dedupe}
+use Rattle.laws.specs.Marks.{freeAt}
 use Rattle.laws.specs.Frees.{frees-most, unlisted-few}
 use Rattle.words.specs.Words.{wordsBytes, over}
 use Rattle.packets.specs.Tile.{indexOf, strideR, strideL, needed}
@@ -23,7 +25,7 @@ use Rattle.types.specs.declared.state.State.{State}
 use Rattle.types.specs.declared.cursor.Position.{Position}
 use Rattle.walks.specs.Counting.{AllCounted}
 use Rattle.walks.specs.Records.{putPackets, over-packets}
-use Rattle.walks.specs.Plan.{walkFor, goesOver, orderIn, Planned}
+use Rattle.walks.specs.Plan.{walkFor, goesOver, orderIn, Planned, planned-walk}
 use Rattle.walks.specs.Taking.{strides-small}
 use Rattle.walks.specs.Running.{Total, totalOf, SomeRun, total-none, total-append}
 use Rattle.walks.specs.declared.plan.Plan.{Plan}
@@ -55,11 +57,11 @@ module _ (st : State) (table marks : List ℕ) (d : Sound st table marks) where
       (subst (λ (l : List Position). In p l) (from-gathers st table k) i)
 
   -- so that the packets are few
-  all-few : length (unlisted (indexOf st) marks (fromOn st table 0)) ≤ needed st
+  all-few : length (unlisted 0 (indexOf st) marks (fromOn st table 0)) ≤ needed st
   all-few =
-      let h = unlisted-few (indexOf st) (needed st) marks (fromOn st table 0)
+      let h = unlisted-few 0 (indexOf st) (needed st) marks (fromOn st table 0)
       (λ p i. let s = marks-needed 0 p i in (s, omega (arith, s, d .marks-long))) in
-      omega (arith, h, frees-most (needed st) marks)
+      omega (arith, h, frees-most 0 (needed st) marks)
 
   pub count-few : (output : List ℕ) → totalOf (indexOf st) marks output 0 (fromOn st table 0) .count ≤ 65536
   unfolding totalOf
@@ -73,7 +75,7 @@ module _ (st : State) (table marks : List ℕ) (d : Sound st table marks) where
 pub record RestIn (st : State) (table counts marks : List ℕ) (n k : ℕ) : Type 0 where
   pub sound : Sound st table marks
   pub counted : AllCounted st table counts
-  pub few : n + length (unlisted (indexOf st) marks (fromOn st table k)) ≤ 65536
+  pub few : n + length (unlisted 0 (indexOf st) marks (fromOn st table k)) ≤ 65536
 
 -- all of them
 pub all-in : (st : State) (table counts marks : List ℕ) → Sound st table marks → AllCounted st table counts → RestIn st table counts marks 0 0
@@ -123,30 +125,30 @@ module _ {st : State} {table marks₀ output₀ : List ℕ} {n₀ k₀ : ℕ} wh
           }
 
       module _ {counts : List ℕ} (d : RestIn st table counts marks₀ n₀ k₀) {plan : Plan}
-          (made : (plan .order ≡ orderIn st (changeOf st k)) × (plan .walk ≡ walkFor st (goesOver st (changeOf st k)))) where
+          {v : ℕ} (made : (plan .order ≡ orderIn st (changeOf st k)) × (plan .walk ≡ walkFor st (goesOver st (changeOf st k)) v)) where
         pub plans : Planned st table k plan marks
-        plans = record { sound = rest-in d .sound; known = less; order = made .0; walk = made .1 }
+        plans = record { sound = rest-in d .sound; known = less; order = made .0; walk = planned-walk st (goesOver st (changeOf st k)) (plan .walk) v (made .1) }
 
-        pub run-few : n + length (unlisted (indexOf st) marks (positionsFor st table k)) ≤ 65536
+        pub run-few : n + length (unlisted 0 (indexOf st) marks (positionsFor st table k)) ≤ 65536
         unfolding totalOf
         run-few = let e = ap (λ (t : Total). t .count) one-more in omega (arith, e, rest-in d .few)
 
         pub all-run : SomeRun counts plan marks n
         all-run = (st, (table, (k, plans, rest-in d .counted, run-few)))
 
--- WHAT ALL THE RUNS LEAVE, from marks that are 0 where they are needed and an output with room: the whole run's list, its marks and its records
-pub all-listed : (st : State) (table marks output : List ℕ) → Sound st table marks → ((i : ℕ) → i < needed st → getD marks i 0 ≡ 0) → 16 * needed st ≤ length output
+-- WHAT ALL THE RUNS LEAVE, from marks that are free for viewer 0 where they are needed and an output with room: the whole run's list, its marks and its records
+pub all-listed : (st : State) (table marks output : List ℕ) → Sound st table marks → ((i : ℕ) → i < needed st → freeAt 0 marks i ≡ true) → 16 * needed st ≤ length output
     → totalOf (indexOf st) marks output 0 (fromOn st table 0)
-    ≡ record { count = length (listed st table); marks = marked (indexOf st) marks (listed st table); output = over (recordsOf (listed st table)) output }
+    ≡ record { count = length (listed st table); marks = marked 0 (indexOf st) marks (listed st table); output = over (recordsOf (listed st table)) output }
 unfolding totalOf listed recordsOf wordsBytes gather
 all-listed st table marks output d clear room =
     let ps : List Position = fromOn st table 0 in
-    let u : List Position = unlisted (indexOf st) marks ps in
+    let u : List Position = unlisted 0 (indexOf st) marks ps in
     let few = all-few st table marks d in
     let e : u ≡ listed st table
-    = unlisted-dedupe (indexOf st) (needed st) marks ps (d .marks-long) clear
+    = unlisted-dedupe 0 (indexOf st) (needed st) marks ps (d .marks-long) clear
     (λ i q. let r = in-of-map (indexOf st) ps q in let h = marks-needed st table marks d 0 (r .0) (r .1) in rw (r .2) at h) in
     let n : 0 + length u ≡ length u = omega arith in
     let w : putPackets output 0 u ≡ over (recordsOf u) output = over-packets [] u output (omega (arith, few)) in
-    (λ i. record { count = n i; marks = marked (indexOf st) marks u; output = w i })
-    ∙ ap (λ (l : List Position). record { count = length l; marks = marked (indexOf st) marks l; output = over (recordsOf l) output }) e
+    (λ i. record { count = n i; marks = marked 0 (indexOf st) marks u; output = w i })
+    ∙ ap (λ (l : List Position). record { count = length l; marks = marked 0 (indexOf st) marks l; output = over (recordsOf l) output }) e

@@ -22,23 +22,23 @@ pub record Total : Type 0 where
   pub marks : List ℕ
   pub output : List ℕ
 
--- what a run leaves that has listed u
+-- what a whole run, which is viewer 0's, leaves that has listed u
 abbrev leaving : (Position → ℕ) → List ℕ → List ℕ → ℕ → List Position → Total
-leaving ix m o n u = record { count = n + length u; marks = marked ix m u; output = putPackets o n u }
+leaving ix m o n u = record { count = n + length u; marks = marked 0 ix m u; output = putPackets o n u }
 
 -- what a run leaves that has `left` before it
 unfoldable pub totalOf : (Position → ℕ) → List ℕ → List ℕ → ℕ → List Position → Total
-totalOf ix m o n left = leaving ix m o n (unlisted ix m left)
+totalOf ix m o n left = leaving ix m o n (unlisted 0 ix m left)
 
 -- some progression is planned, its precincts are counted, and its packets are few
 abbrev pub SomeRun : List ℕ → Plan → List ℕ → ℕ → Type 0
 SomeRun counts plan marks n =
-    (st : State) × ((table : List ℕ) × ((k : ℕ) × Planned st table k plan marks × AllCounted st table counts × (n + length (unlisted (indexOf st) marks (positionsFor st table k)) ≤ 65536)))
+    (st : State) × ((table : List ℕ) × ((k : ℕ) × Planned st table k plan marks × AllCounted st table counts × (n + length (unlisted 0 (indexOf st) marks (positionsFor st table k)) ≤ 65536)))
 
 -- .. and its numbers are prepared
 abbrev pub SomeFilledRun : List ℕ → List ℕ → Plan → List ℕ → ℕ → Type 0
 SomeFilledRun counts prep plan marks n =
-    (st : State) × ((table : List ℕ) × ((k : ℕ) × Planned st table k plan marks × AllCounted st table counts × AllFilled st table prep × (n + length (unlisted (indexOf st) marks (positionsFor st table k)) ≤ 65536)))
+    (st : State) × ((table : List ℕ) × ((k : ℕ) × Planned st table k plan marks × AllCounted st table counts × AllFilled st table prep × (n + length (unlisted 0 (indexOf st) marks (positionsFor st table k)) ≤ 65536)))
 
 -- records written in two goes
 puts-append : (o : List ℕ) (n : ℕ) (u v : List Position) → putPackets o n (u ++ v) ≡ putPackets (putPackets o n u) (n + length u) v
@@ -58,8 +58,8 @@ module _ (ix : Position → ℕ) (m o : List ℕ) (n : ℕ) where
   pub total-append : (a b : List Position) → totalOf ix m o n (a ++ b) ≡ (let t = totalOf ix m o n a in totalOf ix (t .marks) (t .output) (t .count) b)
   unfolding totalOf
   total-append a b =
-      let u : List Position = unlisted ix m a in
-      let v : List Position = unlisted ix (marked ix m u) b in
+      let u : List Position = unlisted 0 ix m a in
+      let v : List Position = unlisted 0 ix (marked 0 ix m u) b in
       let count : n + length (u ++ v) ≡ n + length u + length v = let l : length (u ++ v) ≡ length u + length v = length-append u v in omega arith in
-      ap (leaving ix m o n) (unlisted-append ix m a b)
-      ∙ (λ i. record { count = count i; marks = marked-append ix m u v i; output = puts-append o n u v i })
+      ap (leaving ix m o n) (unlisted-append 0 ix m a b)
+      ∙ (λ i. record { count = count i; marks = marked-append 0 ix m u v i; output = puts-append o n u v i })

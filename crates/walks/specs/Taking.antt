@@ -48,17 +48,17 @@ module _ (st : State) (table marks : List ℕ) (d : Sound st table marks) where
       let r = grows (st .reports .«max_res») (strideR st) deepest-some in
       (omega (arith, d .few), omega (arith, d .few))
 
--- the marks that are left: what was found is marked
-abbrev pub markedBy : State → List ℕ → Found → List ℕ
-markedBy st marks (found.At p) = mark (indexOf st) marks p
-markedBy st marks found.Nothing = marks
+-- the marks that are left: what was found is marked for viewer v
+abbrev pub markedBy : ℕ → State → List ℕ → Found → List ℕ
+markedBy v st marks (found.At p) = mark v (indexOf st) marks p
+markedBy v st marks found.Nothing = marks
 
 -- a planned progression whose search found p: its mark stands where the walk says, and is one of those needed
 module _ (st : State) (table marks : List ℕ) (k : ℕ) (plan : Plan) (d : Planned st table k plan marks) (q : Place) where
-  pub mark-at : (f : Found) (p : Position) → f ≡ found.At p → answerOf f ≡ seek (indexOf st) marks (after q (positionsFor st table k))
+  pub mark-at : (v : ℕ) (f : Found) (p : Position) → f ≡ found.At p → answerOf f ≡ seek v (indexOf st) marks (after q (positionsFor st table k))
       → (markBy (plan .walk) p ≡ indexOf st p) × (indexOf st p < needed st)
   unfolding indexBy indexOf
-  mark-at f p e h =
+  mark-at v f p e h =
       let i : In p (positionsFor st table k)
-      = found-in same (indexOf st) (positionsFor st table k) marks (asCursor q) p (sym (sym (ap answerOf e) ∙ h ∙ ap (seek (indexOf st) marks) (after-as q (positionsFor st table k)))) in
+      = found-in same v (indexOf st) (positionsFor st table k) marks (asCursor q) p (sym (sym (ap answerOf e) ∙ h ∙ ap (seek v (indexOf st) marks) (after-as q (positionsFor st table k)))) in
       (rw (d .walk), mark-needed st table marks (d .sound) k p i)

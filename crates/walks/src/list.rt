@@ -4,6 +4,7 @@ use crate::cell::cell_from;
 use crate::prepared::Along;
 use crate::walk::Walk;
 use crate::walk::index;
+use types::cursor::Cursor;
 use types::cursor::Position;
 use types::mark;
 use words::put_four;
@@ -40,8 +41,8 @@ pub(crate) fn list_packet(marks: &mut [u8], output: &mut [u8], w: Walk, p: Posit
     ensures { λ r. ⌜ _≡_ {A = Total} (record { count = r; marks = now (marks .exit); output = now (output .exit) }) (listedOne w p (now (marks .entry)) (now (output .entry)) n) ⌝ }
 {
     let i = index(w, p.layno, p.resno, p.compno, p.precno);
-    if mark::is_free(marks, i) {
-        mark::set(marks, i);
+    if mark::is_free(marks, i, Cursor::WHOLE_RUN) {
+        mark::set(marks, i, Cursor::WHOLE_RUN);
         put_packet(output, n, p);
         return n + 1;
     }

@@ -26,7 +26,7 @@ pub(crate) fn lrcp(
 ) -> Found
     requires { ⌜ SomeCounted (now counts) w (now marks) ⌝ }
     requires { ⌜ (w .resno0 ≤ «r_from») × (w .compno0 ≤ «c_from») ⌝ }
-    ensures { λ o. ⌜ ((s : Sheet) (g : Range) → Counted s g (now (counts .entry)) w (now (marks .entry)) → answerOf o ≡ seek (indexOf (s .st)) (now (marks .entry)) (entry «l_from» «r_from» «c_from» «k_from» s g)) ⌝ }
+    ensures { λ o. ⌜ ((s : Sheet) (g : Range) → Counted s g (now (counts .entry)) w (now (marks .entry)) → answerOf o ≡ seek (w .viewer) (indexOf (s .st)) (now (marks .entry)) (entry «l_from» «r_from» «c_from» «k_from» s g)) ⌝ }
 {
     let layno1 = w.layno1;
     let resno0 = w.resno0;
@@ -47,7 +47,7 @@ pub(crate) fn lrcp(
                 let mut k = k_at;
                 'ks: while k < count {
                     let i = index(w, l, r, c, k);
-                    if is_free(marks, i) {
+                    if is_free(marks, i, w.viewer) {
                         found = Found::At(Position {
                             layno: l,
                             resno: r,

@@ -19,14 +19,15 @@ pub(crate) struct Plan {
 }
 
 // The walk over a range, which ends at the largest number of resolutions: no component has one beyond.
-fn walk_of(st: State, g: Range) -> Walk
+fn walk_of(st: State, g: Range, viewer: u32) -> Walk
     requires { ⌜ (strideR st ≤ 65536) × (strideL st ≤ 65536) ⌝ }
-    ensures { λ r. ⌜ r ≡ walkFor st (endedAt (st .reports .«max_res») g) ⌝ }
+    ensures { λ r. ⌜ r ≡ walkFor st (endedAt (st .reports .«max_res») g) viewer ⌝ }
 {
     let stride_c = st.reports.max_prec;
     let stride_r = st.components * stride_c;
     let stride_l = st.reports.max_res * stride_r;
     Walk {
+        viewer,
         layno1: g.layno1,
         resno0: g.resno0,
         resno1: math::uint_min(g.resno1, st.reports.max_res),
@@ -49,12 +50,12 @@ fn some_admitted(st: State, g: Range) -> bool
     (0 < st.reports.max_prec) & ((0 < g.layno1) & g.components_good(st))
 }
 
-fn plan_for(st: State, q: Progression) -> Plan
+fn plan_for(st: State, q: Progression, viewer: u32) -> Plan
     requires { ⌜ (strideR st ≤ 65536) × (strideL st ≤ 65536) ⌝ }
-    ensures { λ r. ⌜ (r .order ≡ orderIn st q) × (r .walk ≡ walkFor st (goesOver st q)) ⌝ }
+    ensures { λ r. ⌜ (r .order ≡ orderIn st q) × (r .walk ≡ walkFor st (goesOver st q) viewer) ⌝ }
 {
     let g = Range::of(st, q);
-    let walk = walk_of(st, g);
+    let walk = walk_of(st, g, viewer);
     if some_admitted(st, g) {
         return Plan {
             order: Order::of(q.prg),
@@ -67,11 +68,11 @@ fn plan_for(st: State, q: Progression) -> Plan
     }
 }
 
-// The plan of progression k of a state.
-pub(crate) fn plan_of(st: State, k: u32) -> Plan
+// The plan of progression k of a state, for a viewer.
+pub(crate) fn plan_of(st: State, k: u32, viewer: u32) -> Plan
     requires { ⌜ (k < 32) × (strideR st ≤ 65536) × (strideL st ≤ 65536) ⌝ }
-    ensures { λ r. ⌜ (r .order ≡ orderIn st (changeOf st k)) × (r .walk ≡ walkFor st (goesOver st (changeOf st k))) ⌝ }
+    ensures { λ r. ⌜ (r .order ≡ orderIn st (changeOf st k)) × (r .walk ≡ walkFor st (goesOver st (changeOf st k)) viewer) ⌝ }
 {
     let changes = st.changes;
-    plan_for(st, changes[k as usize])
+    plan_for(st, changes[k as usize], viewer)
 }

@@ -30,7 +30,7 @@ pub(crate) fn rpcl(
 ) -> Found
     requires { ⌜ SomeReady (now prep) w (now marks) ⌝ }
     requires { ⌜ (w .resno0 ≤ «r_from») × (w .ty0 ≤ «y_from») × (w .tx0 ≤ «x_from») × (w .compno0 ≤ «c_from») ⌝ }
-    ensures { λ o. ⌜ ((s : Sheet) (g : Range) → Ready s g (now (prep .entry)) w (now (marks .entry)) → answerOf o ≡ seek (indexOf (s .st)) (now (marks .entry)) (entry «r_from» «y_from» «x_from» «c_from» «l_from» s g)) ⌝ }
+    ensures { λ o. ⌜ ((s : Sheet) (g : Range) → Ready s g (now (prep .entry)) w (now (marks .entry)) → answerOf o ≡ seek (w .viewer) (indexOf (s .st)) (now (marks .entry)) (entry «r_from» «y_from» «x_from» «c_from» «l_from» s g)) ⌝ }
 {
     let layno1 = w.layno1;
     let resno1 = w.resno1;
@@ -58,7 +58,7 @@ pub(crate) fn rpcl(
                             let mut l = l_at;
                             'ls: while l < layno1 {
                                 let i = index(w, l, r, c, k);
-                                if is_free(marks, i) {
+                                if is_free(marks, i, w.viewer) {
                                     found = Found::At(Position {
                                         layno: l,
                                         resno: r,

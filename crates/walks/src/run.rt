@@ -9,6 +9,7 @@ use crate::plan::Plan;
 use crate::plan::plan_of;
 use crate::prepare::prepare;
 use crate::prepared::Along;
+use types::cursor::Cursor;
 use types::order::Order;
 use types::state::State;
 ghost use mathlib.Core.Path.{_≡_};
@@ -94,7 +95,7 @@ fn list_rest(
     let mut count = n;
     let mut k = k_from;
     'runs: while k < progressions {
-        let plan = plan_of(st, k);
+        let plan = plan_of(st, k, Cursor::WHOLE_RUN);
         count = list_progression(marks, output, &mut row, counts, &prep, plan, count);
         k += 1;
     }
@@ -112,7 +113,7 @@ pub fn list_all(st: State, table: &[u8], marks: &mut [u8], output: &mut [u8]) ->
     let mut count = 0;
     let mut k = 0;
     'runs: while k < progressions {
-        let plan = plan_of(st, k);
+        let plan = plan_of(st, k, Cursor::WHOLE_RUN);
         let order = plan.order;
         if order.by_points() {
             return list_rest(st, table, &counts, marks, output, k, count);

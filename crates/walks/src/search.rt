@@ -77,7 +77,7 @@ fn search_counted(
     p: Position,
 ) -> Found
     requires { ⌜ (byPoints order ≡ false) × SomeCountedFor order (now counts) w (now marks) × Startable order w p ⌝ }
-    ensures { λ f. ⌜ ((s : Sheet) (g : Range) → CountedFor order s g (now (counts .entry)) w (now (marks .entry)) → answerOf f ≡ seek (indexOf (s .st)) (now (marks .entry)) (leftFrom s g order p)) ⌝ }
+    ensures { λ f. ⌜ ((s : Sheet) (g : Range) → CountedFor order s g (now (counts .entry)) w (now (marks .entry)) → answerOf f ≡ seek (w .viewer) (indexOf (s .st)) (now (marks .entry)) (leftFrom s g order p)) ⌝ }
 {
     match order {
         Order::Lrcp => lrcp(marks, counts, w, p.layno, p.resno, p.compno, p.precno),
@@ -98,7 +98,7 @@ fn search_points(
     p: Position,
 ) -> Found
     requires { ⌜ (byPoints order ≡ true) × SomeReady (now prep) w (now marks) × Startable order w p ⌝ }
-    ensures { λ f. ⌜ ((s : Sheet) (g : Range) → Ready s g (now (prep .entry)) w (now (marks .entry)) → answerOf f ≡ seek (indexOf (s .st)) (now (marks .entry)) (leftFrom s g order p)) ⌝ }
+    ensures { λ f. ⌜ ((s : Sheet) (g : Range) → Ready s g (now (prep .entry)) w (now (marks .entry)) → answerOf f ≡ seek (w .viewer) (indexOf (s .st)) (now (marks .entry)) (leftFrom s g order p)) ⌝ }
 {
     match order {
         Order::Lrcp => Found::Nothing,
@@ -113,7 +113,7 @@ fn search_points(
 // The first free position from p on, over numbers prepared for the plan's order.
 fn search_from(st: State, table: &[u8], marks: &[u8], plan: Plan, p: Position) -> Found
     requires { ⌜ ((k : ℕ) × Planned st (now table) k plan (now marks)) × Startable (plan .order) (plan .walk) p ⌝ }
-    ensures { λ f. ⌜ ((k : ℕ) → Planned st (now (table .entry)) k plan (now (marks .entry)) → answerOf f ≡ seek (indexOf st) (now (marks .entry)) (leftFrom (sheetAt st (now (table .entry))) (goesOver st (changeOf st k)) (plan .order) p)) ⌝ }
+    ensures { λ f. ⌜ ((k : ℕ) → Planned st (now (table .entry)) k plan (now (marks .entry)) → answerOf f ≡ seek (plan .walk .viewer) (indexOf st) (now (marks .entry)) (leftFrom (sheetAt st (now (table .entry))) (goesOver st (changeOf st k)) (plan .order) p)) ⌝ }
 {
     let order = plan.order;
     let walk = plan.walk;
@@ -130,7 +130,7 @@ fn search_from(st: State, table: &[u8], marks: &[u8], plan: Plan, p: Position) -
 // The first free position of a planned progression after a place.
 pub(crate) fn search(st: State, table: &[u8], marks: &[u8], plan: Plan, place: Place) -> Found
     requires { ⌜ ((k : ℕ) × Planned st (now table) k plan (now marks) × Admitted place (positionsFor st (now table) k)) ⌝ }
-    ensures { λ f. ⌜ ((k : ℕ) → Planned st (now (table .entry)) k plan (now (marks .entry)) → Admitted place (positionsFor st (now (table .entry)) k) → answerOf f ≡ seek (indexOf st) (now (marks .entry)) (after place (positionsFor st (now (table .entry)) k))) ⌝ }
+    ensures { λ f. ⌜ ((k : ℕ) → Planned st (now (table .entry)) k plan (now (marks .entry)) → Admitted place (positionsFor st (now (table .entry)) k) → answerOf f ≡ seek (plan .walk .viewer) (indexOf st) (now (marks .entry)) (after place (positionsFor st (now (table .entry)) k))) ⌝ }
 {
     let order = plan.order;
     match place {

@@ -5,8 +5,9 @@ ghost use Prim.Native.Nat.{_+_, _*_, _<_};
 ghost use Rattle.walks.specs.Walk.{indexBy};
 ghost use Rattle.walks.specs.Part.{partBy};
 
-// A progression's ranges, the tile and the strides, as plain numbers.
+// Whose marks a walk goes by, and a progression's ranges, the tile and the strides, as plain numbers.
 pub(crate) struct Walk {
+    pub viewer: u32,
     pub layno1: u32,
     pub resno0: u32,
     pub resno1: u32,
@@ -26,6 +27,7 @@ pub(crate) fn part(w: Walk, r0: u32, r1: u32, c0: u32, c1: u32) -> Walk
     ensures { λ r. ⌜ r ≡ partBy w r0 r1 c0 c1 ⌝ }
 {
     Walk {
+        viewer: w.viewer,
         layno1: w.layno1,
         resno0: r0,
         resno1: r1,

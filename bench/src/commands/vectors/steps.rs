@@ -6,7 +6,7 @@ use oracle::sheet::Sheet;
 use super::{bytes, lent_table, padded, sample};
 use crate::commands::show::from_words;
 use crate::generate;
-use crate::model::{self, Cursor, Place, Position, Step, Steps};
+use crate::model::{self, Cursor, Place, Position, Step, Steps, VIEWERS};
 use crate::random::Random;
 
 /// Of the file's cases.
@@ -27,13 +27,18 @@ const MOST_MARKS: usize = 64;
 
 /// How a stored cursor comes from what its number names: from a position as it is, from a position with one
 /// of its seven fields (the progression first) one more or one less, or from a progression.
-const AS_IT_IS: u32 = 0;
+pub const AS_IT_IS: u32 = 0;
 const CHANGES: std::ops::RangeInclusive<u32> = 1..=14;
-const FRESH: u32 = 15;
-const ENDED: u32 = 16;
+pub const FRESH: u32 = 15;
+pub const ENDED: u32 = 16;
 
 pub fn cases() -> Vec<Vec<u8>> {
-    cases_of(SEED, known().into_iter().chain(sample()))
+    cases_of(SEED, sheets())
+}
+
+/// Small sheets: those of document 01 and some of every order.
+pub fn sheets() -> Vec<Sheet> {
+    [known(), sample()].concat()
 }
 
 /// Sheets with steps of more than 32 bits in a component that no progression asks of.
@@ -62,10 +67,12 @@ fn cases_of(seed: u64, sheets: impl IntoIterator<Item = Sheet>) -> Vec<Vec<u8>> 
     for sheet in sheets {
         let steps = Steps::of(sheet.clone()).unwrap();
         let clear = vec![0; steps.marks_needed()];
-        let mixed: Vec<u8> = clear.iter().map(|_| random.one_of(&[0, 0, 0, 1, 2, 255])).collect();
-        cases.push(case(&sheet, &steps, &clear, &plain_cursors(&steps), &alterations(&steps)));
+        let mixed: Vec<u8> = clear.iter().map(|_| random.below(256) as u8 & random.below(256) as u8).collect();
+        let mut viewers = (0..=VIEWERS).cycle();
+        let mut seen = |cursors: Vec<Named>| cursors.into_iter().zip(&mut viewers).collect::<Vec<_>>();
+        cases.push(case(&sheet, &steps, &clear, &seen(plain_cursors(&steps)), &alterations(&steps)));
         let cursors = [plain_cursors(&steps), wrong_cursors(&steps)].concat();
-        cases.push(case(&sheet, &steps, &mixed, &cursors, &[]));
+        cases.push(case(&sheet, &steps, &mixed, &seen(cursors), &[]));
     }
     cases
 }
@@ -102,9 +109,9 @@ fn is_small(sheet: &Sheet) -> bool {
 
 /// A cursor as it is stored: what it comes from, and how.
 #[derive(Clone, Copy)]
-struct Named {
-    number: u32,
-    change: u32,
+pub struct Named {
+    pub number: u32,
+    pub change: u32,
 }
 
 /// Fresh, ended, and at each position; also of a progression that there is not.
@@ -121,10 +128,10 @@ fn wrong_cursors(steps: &Steps) -> Vec<Named> {
 }
 
 /// What stands in a position's row: its progression, layer, resolution, component, precinct, x and y.
-type Row = [u32; 7];
+pub type Row = [u32; 7];
 
 /// The positions of all progressions in turn.
-fn listed(steps: &Steps) -> Vec<Row> {
+pub fn listed(steps: &Steps) -> Vec<Row> {
     let progressions = (0..).zip(&steps.positions);
     progressions.flat_map(|(k, positions)| positions.iter().map(move |position| row(k, position))).collect()
 }
@@ -134,10 +141,10 @@ fn row(progression: u32, position: &Position) -> Row {
     [progression, layer, resolution, component, precinct, position.x, position.y]
 }
 
-fn cursor(rows: &[Row], named: Named) -> Cursor {
+pub fn cursor(rows: &[Row], named: Named, viewer: u32) -> Cursor {
     match named.change {
-        FRESH => Cursor { progression: named.number, place: Place::Fresh },
-        ENDED => Cursor { progression: named.number, place: Place::Ended },
+        FRESH => Cursor { viewer, progression: named.number, place: Place::Fresh },
+        ENDED => Cursor { viewer, progression: named.number, place: Place::Ended },
         change => {
             let mut row = rows[named.number as usize];
             if change != AS_IT_IS {
@@ -146,7 +153,7 @@ fn cursor(rows: &[Row], named: Named) -> Cursor {
             }
             let [progression, layer, resolution, component, precinct, x, y] = row;
             let packet = [layer, resolution, component, precinct];
-            Cursor { progression, place: Place::At(Position { packet, x, y }) }
+            Cursor { viewer, progression, place: Place::At(Position { packet, x, y }) }
         }
     }
 }
@@ -179,7 +186,7 @@ fn case(
     sheet: &Sheet,
     steps: &Steps,
     marks: &[u8],
-    cursors: &[Named],
+    cursors: &[(Named, u32)],
     alterations: &[Alteration],
 ) -> Vec<u8> {
     let sheet = sheet.bytes();
@@ -189,10 +196,10 @@ fn case(
     payload.extend(sheet);
     payload.extend(padded(marks));
     payload.extend(bytes(rows.as_flattened()));
-    for &named in cursors {
-        let cursor = cursor(&rows, named);
+    for &(named, viewer) in cursors {
+        let cursor = cursor(&rows, named, viewer);
         let answer = outcome(&rows, cursor.progression, steps.step(marks, cursor));
-        payload.extend(bytes(&[named.number, named.change, answer]));
+        payload.extend(bytes(&[viewer, named.number, named.change, answer]));
     }
     for alteration in alterations {
         let answer = outcome(&rows, 0, altered(steps, marks, *alteration));
@@ -206,12 +213,12 @@ fn altered(steps: &Steps, marks: &[u8], alteration: Alteration) -> Step {
     let table = lent_table(&steps.table, alteration.table, alteration.place, alteration.bits);
     let mut lent = marks.to_vec();
     lent.resize(alteration.marks, 0);
-    let fresh = Cursor { progression: 0, place: Place::Fresh };
+    let fresh = Cursor { viewer: 0, progression: 0, place: Place::Fresh };
     steps.over(&table).map_or(Step::Unsound, |over| over.step(&lent, fresh))
 }
 
 /// 0, -9, or which position's packet is found, counted from 1.
-fn outcome(rows: &[Row], progression: u32, step: Step) -> u32 {
+pub fn outcome(rows: &[Row], progression: u32, step: Step) -> u32 {
     match step {
         Step::Packet(position) => {
             let found = row(progression, &position);

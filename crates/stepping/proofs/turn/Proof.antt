@@ -30,6 +30,9 @@ enum-told c = search needs
 enum-told-2 : tie.Need-enum-told-2
 enum-told-2 c = search needs
 
+enum-told-3 : tie.Need-enum-told-3
+enum-told-3 c = search needs
+
 same-length : tie.Need-same-length
 same-length c = search needs
 
@@ -51,6 +54,12 @@ same-length-4 c = search needs
 returns-3 : tie.Need-returns-3
 returns-3 c = sym (turn-refused _ _ _ _ _ _ (c .before .before .«open» .result) (c .before .before .«open» .ensures) (ap (λ (r : Opened). ofOpened r .cursor) (c .enum-told2 .given .1)))
 
+same-length-5 : tie.Need-same-length-5
+same-length-5 c = search needs
+
+returns-4 : tie.Need-returns-4
+returns-4 c = sym (turn-refused _ _ _ _ _ _ (c .before .before .«open» .result) (c .before .before .«open» .ensures) (ap (λ (r : Opened). ofOpened r .cursor) (c .enum-told3 .given .1)))
+
 pub turn-spec : {M : Type 1} → statement M
 turn-spec =
     tie.close
@@ -60,10 +69,13 @@ turn-spec =
     step-on-requires
     enum-told
     enum-told-2
+    enum-told-3
     same-length
     same-length-2
     returns
     same-length-3
     returns-2
     same-length-4
-    returns-3)
+    returns-3
+    same-length-5
+    returns-4)

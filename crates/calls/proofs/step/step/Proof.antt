@@ -23,8 +23,8 @@ call c = sym (c .before .sound .ensures) ∙ not-false (c .before .sound .result
 -- the step, by what was taken
 stepped : (c : tie.After-take)
     → stepOf (c .before .before .before .before .before .before .before .args .st) (now (c .before .before .before .before .before .before .before .args .table)) (now (c .before .before .before .before .before .before .before .args .marks)) (c .before .before .before .before .before .before .before .args .cursor)
-    ≡ stepBy (c .before .before .before .before .before .before .before .args .st) (now (c .before .before .before .before .before .before .before .args .marks)) (c .before .before .before .before .before .before .before .args .cursor .progression) (answerOf (c .take .result))
-stepped c = step-searches _ _ _ _ (call (c .before .before)) ∙ ap (stepBy _ _ _) (sym (c .take .ensures .0))
+    ≡ stepBy (c .before .before .before .before .before .before .before .args .st) (now (c .before .before .before .before .before .before .before .args .marks)) (c .before .before .before .before .before .before .before .args .cursor .viewer) (c .before .before .before .before .before .before .before .args .cursor .progression) (answerOf (c .take .result))
+stepped c = step-searches _ _ _ _ (call (c .before .before)) ∙ ap (stepBy _ _ _ _) (sym (c .take .ensures .0))
 
 sound-requires : tie.Need-sound-requires
 sound-requires c κs = search needs
@@ -39,7 +39,7 @@ returns c =
     (ap (λ (x : Step). x .said) (sym e), ap (λ (x : Step). x .marks) (sym e))
 
 take-requires : tie.Need-take-requires
-take-requires c κs = let w = all-sound-means _ _ _ _ .0 (call (c .before)) in (w .0, w .1 .0, w .1 .1)
+take-requires c κs = let w = all-sound-means _ _ _ _ .0 (call (c .before)) in (w .0, w .1)
 
 enum-known-p : tie.Need-enum-known-p
 enum-known-p c = search needs
@@ -56,8 +56,8 @@ same-length-2 c = search needs
 returns-2 : tie.Need-returns-2
 returns-2 c =
     let e = c .before .p .given .1 in
-    let t = stepped (c .before .before .before .before .before) ∙ ap (λ f. stepBy (c .before .before .before .before .before .before .before .before .before .before .before .before .args .st) (now (c .before .before .before .before .before .before .before .before .before .before .before .before .args .marks)) (c .before .before .before .before .before .before .before .before .before .before .before .before .args .cursor .progression) (answerOf f)) e in
-    (ap (λ (x : Step). x .said) (sym t), c .before .before .before .before .before .take .ensures .1 ∙ ap (markedBy (c .before .before .before .before .before .before .before .before .before .before .before .before .args .st) (now (c .before .before .before .before .before .before .before .before .before .before .before .before .args .marks))) e ∙ ap (λ (x : Step). x .marks) (sym t))
+    let t = stepped (c .before .before .before .before .before) ∙ ap (λ f. stepBy (c .before .before .before .before .before .before .before .before .before .before .before .before .args .st) (now (c .before .before .before .before .before .before .before .before .before .before .before .before .args .marks)) (c .before .before .before .before .before .before .before .before .before .before .before .before .args .cursor .viewer) (c .before .before .before .before .before .before .before .before .before .before .before .before .args .cursor .progression) (answerOf f)) e in
+    (ap (λ (x : Step). x .said) (sym t), c .before .before .before .before .before .take .ensures .1 ∙ ap (markedBy (c .before .before .before .before .before .before .before .before .before .before .before .before .args .cursor .viewer) (c .before .before .before .before .before .before .before .before .before .before .before .before .args .st) (now (c .before .before .before .before .before .before .before .before .before .before .before .before .args .marks))) e ∙ ap (λ (x : Step). x .marks) (sym t))
 
 same-length-3 : tie.Need-same-length-3
 same-length-3 c = search needs
@@ -65,9 +65,9 @@ same-length-3 c = search needs
 returns-3 : tie.Need-returns-3
 returns-3 c =
     let e = c .before .enum-told .given .1 in
-    let t = stepped (c .before .before .before .before .before) ∙ ap (λ f. stepBy (c .before .before .before .before .before .before .before .before .before .before .before .before .args .st) (now (c .before .before .before .before .before .before .before .before .before .before .before .before .args .marks)) (c .before .before .before .before .before .before .before .before .before .before .before .before .args .cursor .progression) (answerOf f)) e in (
+    let t = stepped (c .before .before .before .before .before) ∙ ap (λ f. stepBy (c .before .before .before .before .before .before .before .before .before .before .before .before .args .st) (now (c .before .before .before .before .before .before .before .before .before .before .before .before .args .marks)) (c .before .before .before .before .before .before .before .before .before .before .before .before .args .cursor .viewer) (c .before .before .before .before .before .before .before .before .before .before .before .before .args .cursor .progression) (answerOf f)) e in (
       ap (λ (x : Cursor). record { number = pos 0; packet = none; cursor = x }) (c .ended .ensures) ∙ ap (λ (x : Step). x .said) (sym t),
-      c .before .before .before .before .before .take .ensures .1 ∙ ap (markedBy (c .before .before .before .before .before .before .before .before .before .before .before .before .args .st) (now (c .before .before .before .before .before .before .before .before .before .before .before .before .args .marks))) e ∙ ap (λ (x : Step). x .marks) (sym t),
+      c .before .before .before .before .before .take .ensures .1 ∙ ap (markedBy (c .before .before .before .before .before .before .before .before .before .before .before .before .args .cursor .viewer) (c .before .before .before .before .before .before .before .before .before .before .before .before .args .st) (now (c .before .before .before .before .before .before .before .before .before .before .before .before .args .marks))) e ∙ ap (λ (x : Step). x .marks) (sym t),
     )
 
 pub step-spec : {M : Type 1} → statement M

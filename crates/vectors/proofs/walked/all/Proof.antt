@@ -1,13 +1,13 @@
 -- `walked::all`: progression after progression, and the marks keep their length. Assumes nothing.
 use mathlib.Core.Path.{_≡_}
-use Prim.Native.Nat.{_≤_, _-_}
+use Prim.Native.Nat.{_≤_, _<_, _-_, _^_}
 use lib.ListN.{length}
 use borrow.Author.Needs.{needs}
 use Rattle.vectors.proofs.walked.all.Statement.{statement}
 use Rattle.vectors.proofs.walked.all.Tie as tie
 
 abbrev Inv-loop : tie.InvT-loop
-Inv-loop st table marks₀ needed packets progressions listing₀ k₀ marks listing k = (k ≤ progressions) × (length marks ≡ length marks₀)
+Inv-loop st table marks₀ needed packets progressions listing₀ k₀ marks listing k = (k ≤ progressions) × (progressions < 2 ^ 32) × (length marks ≡ length marks₀)
 
 abbrev μ-loop : tie.MeasureT-loop
 μ-loop st table marks₀ needed packets progressions listing₀ k₀ marks listing k = progressions - k

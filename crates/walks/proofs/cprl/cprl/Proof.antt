@@ -30,7 +30,7 @@ use Rattle.walks.proofs.cprl.cprl.Tie as tie
 
 -- nothing is found yet, and the rest answers as the whole at entry
 abbrev Kept : List ℕ → List ℕ → Walk → ℕ → ℕ → ℕ → ℕ → ℕ → Found → Rest → Type 0
-Kept marks prep w c y x r l found rest = Going (λ s g. Ready s g prep w marks) marks (entry c y x r l) found rest
+Kept marks prep w c y x r l found rest = Going (w .viewer) (λ s g. Ready s g prep w marks) marks (entry c y x r l) found rest
 
 abbrev Inv-ls : tie.InvT-ls
 Inv-ls marks prep w c-from y-from x-from r-from l-from layno1 resno0 resno1 compno1 tx0 ty0 tx1 ty1 y-at x-at r-at l-at found₀ c y x r k l₀ found l =
@@ -132,7 +132,7 @@ cell-first : (c : tie.After-cell-at Inv-ls μ-ls Inv-rs μ-rs Inv-xs μ-xs Inv-y
     (cellFrom r i x y (d .before .rs .l-at) then only i (leftR (aloneBy (a .w) i) y x i (r + 1) 0) then only i (afterX (aloneBy (a .w) i) y x) then onFrom (a .w) (i + 1)))
 cell-first c =
     let d = c .before in
-    parts _ _ _ _ _ (d .before .rs .inv .1) _ _ (λ s g h. inR s g _ _ _ h _ (at-c d .before .search .inv .0) (at-c d .search-test .taken) _ _ _ _ (d .rs-test .taken))
+    parts _ _ _ _ _ _ (d .before .rs .inv .1) _ _ (λ s g h. inR s g _ _ _ h _ (at-c d .before .search .inv .0) (at-c d .search-test .taken) _ _ _ _ (d .rs-test .taken))
 
 -- the precinct that is met is one of the sheet's
 layered : (c : tie.In-ls Inv-ls μ-ls Inv-rs μ-rs Inv-xs μ-xs Inv-ys μ-ys Inv-search μ-search) (s : Sheet) (g : Range)
@@ -154,9 +154,9 @@ read-here : (c : tie.After-is-free Inv-ls μ-ls Inv-rs μ-rs Inv-xs μ-xs Inv-ys
     let l = c .before .before .before .ls .l in
     ReadyIn (at-c d) s g → (t : Bool) → c .is-free .result ≡ t
     → (layersFrom r i x y k l s g ≡ packetOf r i x y k l ∷ layersFrom r i x y k (l + 1) s g)
-    × (freeAt (start (at-c d) .args .marks .now) (indexOf (s .st) (packetOf r i x y k l)) ≡ t))
+    × (freeAt (start (at-c d) .args .w .viewer) (start (at-c d) .args .marks .now) (indexOf (s .st) (packetOf r i x y k l)) ≡ t))
 read-here c s g h t e =
-    layer-read s g _ _ _ _ _ _ _ (layered (c .before .before) s g h) _ (c .before .before .ls-test .taken) _ _ _ (c .before .index .ensures) (c .is-free .ensures) e
+    layer-read s g _ _ _ _ _ _ _ (layered (c .before .before) s g h) _ (c .before .before .ls-test .taken) _ _ _ _ (c .before .index .ensures) (c .is-free .ensures) e
 
 -- the next column and row, for every such sheet; and they grow
 column-here : (c : tie.After-next-column Inv-ls μ-ls Inv-rs μ-rs Inv-xs μ-xs Inv-ys μ-ys Inv-search μ-search) (s : Sheet) (g : Range)
@@ -185,24 +185,24 @@ row-up c = let p = start (c .before .before .before .before .before) .pre .0 in 
 
 search-holds :
     tie.Need-search-holds Inv-ls μ-ls Inv-rs μ-rs Inv-xs μ-xs Inv-ys μ-ys Inv-search μ-search
-search-holds c = let p = c .before .pre .1 in (p .0, p .1, p .2, p .3, starts _ _ _)
+search-holds c = let p = c .before .pre .1 in (p .0, p .1, p .2, p .3, starts _ _ _ _)
 
 ys-holds : tie.Need-ys-holds Inv-ls μ-ls Inv-rs μ-rs Inv-xs μ-xs Inv-ys μ-ys Inv-search μ-search
 ys-holds c =
     let k = c .before .search .inv in
-    (k .1, k .2, k .3, splits _ _ _ _ (k .4) _ _ (λ s g h. one-left s g _ _ _ h _ (k .0) (c .search-test .taken) _ _ _ _))
+    (k .1, k .2, k .3, splits _ _ _ _ _ (k .4) _ _ (λ s g h. one-left s g _ _ _ h _ (k .0) (c .search-test .taken) _ _ _ _))
 
 xs-holds : tie.Need-xs-holds Inv-ls μ-ls Inv-rs μ-rs Inv-xs μ-xs Inv-ys μ-ys Inv-search μ-search
 xs-holds c =
     let k = c .before .ys .inv in
-    (k .1, k .2, turns _ _ _ _ _ (k .3) _ (λ s g h. inY s _ _ _ _ (alone-here (c .before .before) s g h) _ _ _ _ _ (k .0) (c .ys-test .taken)))
+    (k .1, k .2, turns _ _ _ _ _ _ (k .3) _ (λ s g h. inY s _ _ _ _ (alone-here (c .before .before) s g h) _ _ _ _ _ (k .0) (c .ys-test .taken)))
 
 rs-holds : tie.Need-rs-holds Inv-ls μ-ls Inv-rs μ-rs Inv-xs μ-xs Inv-ys μ-ys Inv-search μ-search
 rs-holds c =
     let k = c .before .xs .inv in
     let d = c .before .before in
     let e = c .before .before .before .before in
-    (k .1, parts _ _ _ _ _ (k .2) _ _ (λ s g h. inX s g _ _ _ h _ (e .before .search .inv .0) (e .search-test .taken) _ _ _ _ (d .before .ys .inv .0) (d .ys-test .taken) (k .0) (c .xs-test .taken)))
+    (k .1, parts _ _ _ _ _ _ (k .2) _ _ (λ s g h. inX s g _ _ _ h _ (e .before .search .inv .0) (e .search-test .taken) _ _ _ _ (d .before .ys .inv .0) (d .ys-test .taken) (k .0) (c .xs-test .taken)))
 
 cell-at-requires :
     tie.Need-cell-at-requires Inv-ls μ-ls Inv-rs μ-rs Inv-xs μ-xs Inv-ys μ-ys Inv-search μ-search
@@ -214,7 +214,7 @@ enum-known-k c = search needs
 
 ls-holds : tie.Need-ls-holds Inv-ls μ-ls Inv-rs μ-rs Inv-xs μ-xs Inv-ys μ-ys Inv-search μ-search
 ls-holds c =
-    turns _ _ _ _ _ (cell-first (c .before .before .before)) _
+    turns _ _ _ _ _ _ (cell-first (c .before .before .before)) _
     (λ s g h. cell-left s g _ _ _ h _ _ _ _ (stands (c .before .before .before .before)) _ (cell-is (c .before .before .before) s g h) _ _ (c .before .k .given .1))
 
 index-requires :
@@ -232,7 +232,7 @@ ls-less : tie.Need-ls-less Inv-ls μ-ls Inv-rs μ-rs Inv-xs μ-xs Inv-ys μ-ys I
 ls-less c = search needs
 
 ls-again : tie.Need-ls-again Inv-ls μ-ls Inv-rs μ-rs Inv-xs μ-xs Inv-ys μ-ys Inv-search μ-search
-ls-again c = passes _ _ _ _ _ (c .before .before .before .before .ls .inv) _ _ (λ s g h. read-here (c .before) s g h false (c .if1 .left))
+ls-again c = passes _ _ _ _ _ _ (c .before .before .before .before .ls .inv) _ _ (λ s g h. read-here (c .before) s g h false (c .if1 .left))
 
 enum-told : tie.Need-enum-told Inv-ls μ-ls Inv-rs μ-rs Inv-xs μ-xs Inv-ys μ-ys Inv-search μ-search
 enum-told c = search needs
@@ -247,10 +247,10 @@ rs-again : tie.Need-rs-again Inv-ls μ-ls Inv-rs μ-rs Inv-xs μ-xs Inv-ys μ-ys
 rs-again c = (
   omega (arith, c .before .before .before .rs .inv .0),
   ⊎-elim
-      (λ w. rw (w .5) (leaves _ _ _ _ _ (w .3 .inv) (λ s g h. outL s g _ _ _ _ _ _ (rw (h .ranged .layno1) at (w .4 .left)))))
+      (λ w. rw (w .5) (leaves _ _ _ _ _ _ (w .3 .inv) (λ s g h. outL s g _ _ _ _ _ _ (rw (h .ranged .layno1) at (w .4 .left)))))
       (λ w.
       rw (w .2)
-      (leaves _ _ _ _ _ (cell-first (c .before))
+      (leaves _ _ _ _ _ _ (cell-first (c .before))
       (λ s g h. cell-passed s g _ _ _ h _ _ _ _ (stands (c .before .before)) _ (cell-is (c .before) s g h) _ (w .1 .given .1))))
       (c .match .came),
 )
@@ -274,7 +274,7 @@ xs-again c =
     let d = c .before .before .before .before .before .before .before in (
       omega (arith, column-up c, c .before .before .before .before .xs .inv .0),
       omega arith,
-      turns _ _ _ _ _ (leaves _ _ _ _ _ (c .before .before .rs .inv .1) (λ s g h. outR s g _ _ _ h _ (d .before .search .inv .0) (d .search-test .taken) _ _ _ _ (c .before .rs-test .left))) _
+      turns _ _ _ _ _ _ (leaves _ _ _ _ _ _ (c .before .before .rs .inv .1) (λ s g h. outR s g _ _ _ h _ (d .before .search .inv .0) (d .search-test .taken) _ _ _ _ (c .before .rs-test .left))) _
           (λ s g h. rw (column-here c s g h .0)),
     )
 
@@ -297,7 +297,7 @@ ys-again c = (
   omega (arith, row-up c, c .before .before .before .before .ys .inv .0),
   omega arith,
   omega arith,
-  turns _ _ _ _ _ (c .before .before .xs .inv .2) _
+  turns _ _ _ _ _ _ (c .before .before .xs .inv .2) _
       (λ s g h. rw (row-here c s g h .0) (outX s _ _ _ _ (alone-here (c .before .before .before .before .before) s g h) _ _ _ _ _ (c .before .xs-test .left))),
 )
 
@@ -315,16 +315,16 @@ search-again c = (
   omega arith,
   omega arith,
   omega arith,
-  leaves _ _ _ _ _ (c .before .ys .inv .3) (λ s g h. outY s _ _ _ _ (alone-here (c .before .before) s g h) _ _ _ _ _ (c .ys-test .left)),
+  leaves _ _ _ _ _ _ (c .before .ys .inv .3) (λ s g h. outY s _ _ _ _ (alone-here (c .before .before) s g h) _ _ _ _ _ (c .ys-test .left)),
 )
 
 -- left by the outermost test: nothing is left
 returns : tie.Need-returns Inv-ls μ-ls Inv-rs μ-rs Inv-xs μ-xs Inv-ys μ-ys Inv-search μ-search
-returns c = ends _ _ _ _ (c .before .search .inv .4) (λ s g h. none-left s g _ _ _ h _ _ _ _ _ (c .search-test .left))
+returns c = ends _ _ _ _ _ (c .before .search .inv .4) (λ s g h. none-left s g _ _ _ h _ _ _ _ _ (c .search-test .left))
 
 -- left by the break: what is free is found
 returns-2 : tie.Need-returns-2 Inv-ls μ-ls Inv-rs μ-rs Inv-xs μ-xs Inv-ys μ-ys Inv-search μ-search
-returns-2 c = finds _ _ _ _ _ (c .before .before .before .before .ls .inv) _ _ (λ s g h. read-here (c .before) s g h true (c .if1 .taken))
+returns-2 c = finds _ _ _ _ _ _ (c .before .before .before .before .ls .inv) _ _ (λ s g h. read-here (c .before) s g h true (c .if1 .taken))
 
 pub cprl-spec : {M : Type 1} → statement M
 cprl-spec =

@@ -1,9 +1,10 @@
 -- `list_packet`: a packet whose mark is free is marked and written; any other is left. Assumes nothing.
 use borrow.Author.Needs.{needs}
-use mathlib.Core.Path.{sym, ap, _∙_}
+use mathlib.Core.Path.{refl, sym, ap, _∙_}
 use Prim.Native.Nat.{_+_}
 use denote.Ref.{now}
 use Rattle.laws.specs.Marks.{freeAt, markAt}
+use Rattle.types.specs.Viewers.{set-marks}
 use Rattle.walks.specs.Listing.{listed-free, listed-taken}
 use Rattle.walks.proofs.list.list_packet.Statement.{statement}
 use Rattle.walks.proofs.list.list_packet.Tie as tie
@@ -34,8 +35,8 @@ returns c =
     let z = c .before .before .before .before .before .before .before in
     let a = z .before .before .before .before .before .before .before .args in
     let i = z .before .before .before .before .index .ensures in
-    (λ j. record { count = a .n + 1; marks = (c .before .before .before .before .before .before .set .ensures ∙ ap (markAt (now (a .marks))) i) j; output = c .before .before .put-packet .ensures j })
-    ∙ listed-free (a .w) (a .p) (now (a .marks)) (now (a .output)) (a .n) (ap (freeAt (now (a .marks))) (sym i) ∙ sym (z .before .before .is-free .ensures) ∙ z .before .if1 .taken)
+    (λ j. record { count = a .n + 1; marks = (c .before .before .before .before .before .before .set .ensures ∙ set-marks 0 (now (a .marks)) _ refl ∙ ap (markAt 0 (now (a .marks))) i) j; output = c .before .before .put-packet .ensures j })
+    ∙ listed-free (a .w) (a .p) (now (a .marks)) (now (a .output)) (a .n) (ap (freeAt 0 (now (a .marks))) (sym i) ∙ sym (z .before .before .is-free .ensures) ∙ z .before .if1 .taken)
 
 same-length-3 : tie.Need-same-length-3
 same-length-3 c = search needs
@@ -43,7 +44,7 @@ same-length-3 c = search needs
 returns-2 : tie.Need-returns-2
 returns-2 c =
     let a = c .before .before .before .before .before .before .args in
-    listed-taken (a .w) (a .p) (now (a .marks)) (now (a .output)) (a .n) (ap (freeAt (now (a .marks))) (sym (c .before .before .before .index .ensures)) ∙ sym (c .before .is-free .ensures) ∙ c .if1 .left)
+    listed-taken (a .w) (a .p) (now (a .marks)) (now (a .output)) (a .n) (ap (freeAt 0 (now (a .marks))) (sym (c .before .before .before .index .ensures)) ∙ sym (c .before .is-free .ensures) ∙ c .if1 .left)
 
 pub list-packet-spec : {M : Type 1} → statement M
 list-packet-spec =

@@ -21,7 +21,7 @@ use Rattle.walks.proofs.lrcp.lrcp.Tie as tie
 
 -- nothing is found yet, and the rest answers as the whole at entry
 abbrev Kept : List ℕ → List ℕ → Walk → ℕ → ℕ → ℕ → ℕ → Found → Rest → Type 0
-Kept marks counts w l r c k found rest = Going (λ s g. Counted s g counts w marks) marks (entry l r c k) found rest
+Kept marks counts w l r c k found rest = Going (w .viewer) (λ s g. Counted s g counts w marks) marks (entry l r c k) found rest
 
 abbrev Inv-ks : tie.InvT-ks
 Inv-ks marks counts w l-from r-from c-from k-from layno1 resno0 resno1 compno0 compno1 r-at c-at k-at found₀ l r c count k₀ found k =
@@ -87,26 +87,26 @@ read-here : (c : tie.After-is-free Inv-ks μ-ks Inv-cs μ-cs Inv-rs μ-rs Inv-se
     let i = d .before .cs .c in
     let k = c .before .before .before .ks .k in
     CountedIn d s g → (t : Bool) → c .is-free .result ≡ t
-    → (leftK l r i k s g ≡ placeOf l r i k ∷ leftK l r i (k + 1) s g) × (freeAt (start d .args .marks .now) (indexOf (s .st) (placeOf l r i k)) ≡ t))
+    → (leftK l r i k s g ≡ placeOf l r i k ∷ leftK l r i (k + 1) s g) × (freeAt (start d .args .w .viewer) (start d .args .marks .now) (indexOf (s .st) (placeOf l r i k)) ≡ t))
 read-here c s g h t e =
     mark-read s g _ _ _ h _ _ _ (stands (c .before .before .before .before .before)) _ (c .before .before .before .before .number-at .ensures) _ (c .before .before .ks-test .taken)
-    _ _ _ (c .before .index .ensures) (c .is-free .ensures) e
+    _ _ _ _ (c .before .index .ensures) (c .is-free .ensures) e
 
 search-holds : tie.Need-search-holds Inv-ks μ-ks Inv-cs μ-cs Inv-rs μ-rs Inv-search μ-search
-search-holds c = let p = c .before .pre .1 in (p .0, p .1, starts _ _ _)
+search-holds c = let p = c .before .pre .1 in (p .0, p .1, starts _ _ _ _)
 
 rs-holds : tie.Need-rs-holds Inv-ks μ-ks Inv-cs μ-cs Inv-rs μ-rs Inv-search μ-search
-rs-holds c = let i = c .before .search .inv in (i .0, i .1, onward _ _ _ _ (i .2) _ (λ s g h. inL s g _ _ _ h _ _ _ _ (c .search-test .taken)))
+rs-holds c = let i = c .before .search .inv in (i .0, i .1, onward _ _ _ _ _ (i .2) _ (λ s g h. inL s g _ _ _ h _ _ _ _ (c .search-test .taken)))
 
 cs-holds : tie.Need-cs-holds Inv-ks μ-ks Inv-cs μ-cs Inv-rs μ-rs Inv-search μ-search
-cs-holds c = let i = c .before .rs .inv in (i .1, splits _ _ _ _ (i .2) _ _ (λ s g h. inR s g _ _ _ h _ _ _ _ (c .rs-test .taken)))
+cs-holds c = let i = c .before .rs .inv in (i .1, splits _ _ _ _ _ (i .2) _ _ (λ s g h. inR s g _ _ _ h _ _ _ _ (c .rs-test .taken)))
 
 number-at-requires :
     tie.Need-number-at-requires Inv-ks μ-ks Inv-cs μ-cs Inv-rs μ-rs Inv-search μ-search
 number-at-requires c κs = let p = start c .pre .0 in held (p .0) (p .1 .0) _ _ _ (p .1 .1) _ _ _ (stands c)
 
 ks-holds : tie.Need-ks-holds Inv-ks μ-ks Inv-cs μ-cs Inv-rs μ-rs Inv-search μ-search
-ks-holds c = turns _ _ _ _ _ (c .before .before .cs .inv .1) _ (λ s g h. inC s g _ _ _ _ (rw (h .ranged .compno1) at (c .before .cs-test .taken)))
+ks-holds c = turns _ _ _ _ _ _ (c .before .before .cs .inv .1) _ (λ s g h. inC s g _ _ _ _ (rw (h .ranged .compno1) at (c .before .cs-test .taken)))
 
 index-requires : tie.Need-index-requires Inv-ks μ-ks Inv-cs μ-cs Inv-rs μ-rs Inv-search μ-search
 index-requires c κs =
@@ -125,7 +125,7 @@ ks-less : tie.Need-ks-less Inv-ks μ-ks Inv-cs μ-cs Inv-rs μ-rs Inv-search μ-
 ks-less c = search needs
 
 ks-again : tie.Need-ks-again Inv-ks μ-ks Inv-cs μ-cs Inv-rs μ-rs Inv-search μ-search
-ks-again c = passes _ _ _ _ _ (c .before .before .before .before .ks .inv) _ _ (λ s g h. read-here (c .before) s g h false (c .if1 .left))
+ks-again c = passes _ _ _ _ _ _ (c .before .before .before .before .ks .inv) _ _ (λ s g h. read-here (c .before) s g h false (c .if1 .left))
 
 add-c : tie.Need-add-c Inv-ks μ-ks Inv-cs μ-cs Inv-rs μ-rs Inv-search μ-search
 add-c c = search needs
@@ -136,7 +136,7 @@ cs-less c = search needs
 cs-again : tie.Need-cs-again Inv-ks μ-ks Inv-cs μ-cs Inv-rs μ-rs Inv-search μ-search
 cs-again c = (
   omega (arith, c .before .before .before .before .cs .inv .0),
-  turns _ _ _ _ _ (c .before .ks .inv) _
+  turns _ _ _ _ _ _ (c .before .ks .inv) _
       (λ s g h. outK s g _ _ _ _ (rw (count-is s g _ _ _ h _ _ _ (stands (c .before .before .before)) _ (c .before .before .number-at .ensures)) at (c .ks-test .left))),
 )
 
@@ -150,7 +150,7 @@ rs-again : tie.Need-rs-again Inv-ks μ-ks Inv-cs μ-cs Inv-rs μ-rs Inv-search �
 rs-again c = (
   omega (arith, c .before .before .before .rs .inv .0),
   omega arith,
-  leaves _ _ _ _ _ (c .before .cs .inv .1) (λ s g h. outC s g _ _ _ _ (rw (h .ranged .compno1) at (c .cs-test .left))),
+  leaves _ _ _ _ _ _ (c .before .cs .inv .1) (λ s g h. outC s g _ _ _ _ (rw (h .ranged .compno1) at (c .cs-test .left))),
 )
 
 add-l : tie.Need-add-l Inv-ks μ-ks Inv-cs μ-cs Inv-rs μ-rs Inv-search μ-search
@@ -160,15 +160,15 @@ search-less : tie.Need-search-less Inv-ks μ-ks Inv-cs μ-cs Inv-rs μ-rs Inv-se
 search-less c = search needs
 
 search-again : tie.Need-search-again Inv-ks μ-ks Inv-cs μ-cs Inv-rs μ-rs Inv-search μ-search
-search-again c = (omega arith, omega arith, onward _ _ _ _ (c .before .rs .inv .2) _ (λ s g h. outR s g _ _ _ h _ _ _ _ (c .rs-test .left)))
+search-again c = (omega arith, omega arith, onward _ _ _ _ _ (c .before .rs .inv .2) _ (λ s g h. outR s g _ _ _ h _ _ _ _ (c .rs-test .left)))
 
 -- left by the outermost test: nothing is left
 returns : tie.Need-returns Inv-ks μ-ks Inv-cs μ-cs Inv-rs μ-rs Inv-search μ-search
-returns c = ends _ _ _ _ (c .before .search .inv .2) (λ s g h. outL s g _ _ _ h _ _ _ _ (c .search-test .left))
+returns c = ends _ _ _ _ _ (c .before .search .inv .2) (λ s g h. outL s g _ _ _ h _ _ _ _ (c .search-test .left))
 
 -- left by the break: what is free is found
 returns-2 : tie.Need-returns-2 Inv-ks μ-ks Inv-cs μ-cs Inv-rs μ-rs Inv-search μ-search
-returns-2 c = finds _ _ _ _ _ (c .before .before .before .before .ks .inv) _ _ (λ s g h. read-here (c .before) s g h true (c .if1 .taken))
+returns-2 c = finds _ _ _ _ _ _ (c .before .before .before .before .ks .inv) _ _ (λ s g h. read-here (c .before) s g h true (c .if1 .taken))
 
 pub lrcp-spec : {M : Type 1} → statement M
 lrcp-spec =

@@ -28,7 +28,7 @@ use Rattle.walks.proofs.pcrl.pcrl.Tie as tie
 
 -- nothing is found yet, and the rest answers as the whole at entry
 abbrev Kept : List ℕ → List ℕ → Walk → ℕ → ℕ → ℕ → ℕ → ℕ → Found → Rest → Type 0
-Kept marks prep w y x c r l found rest = Going (λ s g. Ready s g prep w marks) marks (entry y x c r l) found rest
+Kept marks prep w y x c r l found rest = Going (w .viewer) (λ s g. Ready s g prep w marks) marks (entry y x c r l) found rest
 
 abbrev Inv-ls : tie.InvT-ls
 Inv-ls marks prep w y-from x-from c-from r-from l-from layno1 resno0 resno1 compno0 compno1 tx0 tx1 ty1 x-at c-at r-at l-at found₀ y x c r k l₀ found l =
@@ -123,7 +123,7 @@ cell-first : (c : tie.After-cell-at Inv-ls μ-ls Inv-rs μ-rs Inv-cs μ-cs Inv-x
     let r = d .before .rs .r in
     Kept (a .marks .now) (a .prep .now) (a .w) (a .y-from) (a .x-from) (a .c-from) (a .r-from) (a .l-from) (d .before .rs .found)
     (cellFrom r i x y (d .before .rs .l-at) then leftR (a .w) y x i (r + 1) 0 then afterX (a .w) y x))
-cell-first c = parts _ _ _ _ _ (c .before .before .rs .inv .1) _ _ (λ s g h. inR s g _ _ _ h _ _ _ _ _ (c .before .rs-test .taken))
+cell-first c = parts _ _ _ _ _ _ (c .before .before .rs .inv .1) _ _ (λ s g h. inR s g _ _ _ h _ _ _ _ _ (c .before .rs-test .taken))
 
 -- the precinct that is met is one of the sheet's
 layered : (c : tie.In-ls Inv-ls μ-ls Inv-rs μ-rs Inv-cs μ-cs Inv-xs μ-xs Inv-search μ-search) (s : Sheet) (g : Range)
@@ -145,9 +145,9 @@ read-here : (c : tie.After-is-free Inv-ls μ-ls Inv-rs μ-rs Inv-cs μ-cs Inv-xs
     let l = c .before .before .before .ls .l in
     ReadyIn (at-y d) s g → (t : Bool) → c .is-free .result ≡ t
     → (layersFrom r i x y k l s g ≡ packetOf r i x y k l ∷ layersFrom r i x y k (l + 1) s g)
-    × (freeAt (start (at-y d) .args .marks .now) (indexOf (s .st) (packetOf r i x y k l)) ≡ t))
+    × (freeAt (start (at-y d) .args .w .viewer) (start (at-y d) .args .marks .now) (indexOf (s .st) (packetOf r i x y k l)) ≡ t))
 read-here c s g h t e =
-    layer-read s g _ _ _ _ _ _ _ (layered (c .before .before) s g h) _ (c .before .before .ls-test .taken) _ _ _ (c .before .index .ensures) (c .is-free .ensures) e
+    layer-read s g _ _ _ _ _ _ _ (layered (c .before .before) s g h) _ (c .before .before .ls-test .taken) _ _ _ _ (c .before .index .ensures) (c .is-free .ensures) e
 
 -- the next column and row, for every such sheet; and they grow
 column-here : (c : tie.After-next-column Inv-ls μ-ls Inv-rs μ-rs Inv-cs μ-cs Inv-xs μ-xs Inv-search μ-search) (s : Sheet) (g : Range)
@@ -172,21 +172,21 @@ row-up c = let p = start (c .before .before .before) .pre .0 in row-here c (p .0
 
 search-holds :
     tie.Need-search-holds Inv-ls μ-ls Inv-rs μ-rs Inv-cs μ-cs Inv-xs μ-xs Inv-search μ-search
-search-holds c = let p = c .before .pre .1 in (p .0, p .1, p .2, p .3, starts _ _ _)
+search-holds c = let p = c .before .pre .1 in (p .0, p .1, p .2, p .3, starts _ _ _ _)
 
 xs-holds : tie.Need-xs-holds Inv-ls μ-ls Inv-rs μ-rs Inv-cs μ-cs Inv-xs μ-xs Inv-search μ-search
 xs-holds c =
     let i = c .before .search .inv in
-    (i .1, i .2, i .3, onward _ _ _ _ (i .4) _ (λ s g h. inY s g _ _ _ h _ _ _ _ _ (i .0) (c .search-test .taken)))
+    (i .1, i .2, i .3, onward _ _ _ _ _ (i .4) _ (λ s g h. inY s g _ _ _ h _ _ _ _ _ (i .0) (c .search-test .taken)))
 
 cs-holds : tie.Need-cs-holds Inv-ls μ-ls Inv-rs μ-rs Inv-cs μ-cs Inv-xs μ-xs Inv-search μ-search
 cs-holds c =
     let i = c .before .xs .inv in
     let d = c .before .before in
-    (i .1, i .2, splits _ _ _ _ (i .3) _ _ (λ s g h. inX s g _ _ _ h _ _ _ _ _ (d .before .search .inv .0) (d .search-test .taken) (i .0) (c .xs-test .taken)))
+    (i .1, i .2, splits _ _ _ _ _ (i .3) _ _ (λ s g h. inX s g _ _ _ h _ _ _ _ _ (d .before .search .inv .0) (d .search-test .taken) (i .0) (c .xs-test .taken)))
 
 rs-holds : tie.Need-rs-holds Inv-ls μ-ls Inv-rs μ-rs Inv-cs μ-cs Inv-xs μ-xs Inv-search μ-search
-rs-holds c = let i = c .before .cs .inv in (i .1, turns _ _ _ _ _ (i .2) _ (λ s g h. inC s g _ _ _ h _ _ _ _ _ (c .cs-test .taken)))
+rs-holds c = let i = c .before .cs .inv in (i .1, turns _ _ _ _ _ _ (i .2) _ (λ s g h. inC s g _ _ _ h _ _ _ _ _ (c .cs-test .taken)))
 
 cell-at-requires :
     tie.Need-cell-at-requires Inv-ls μ-ls Inv-rs μ-rs Inv-cs μ-cs Inv-xs μ-xs Inv-search μ-search
@@ -198,7 +198,7 @@ enum-known-k c = search needs
 
 ls-holds : tie.Need-ls-holds Inv-ls μ-ls Inv-rs μ-rs Inv-cs μ-cs Inv-xs μ-xs Inv-search μ-search
 ls-holds c =
-    turns _ _ _ _ _ (cell-first (c .before .before .before)) _
+    turns _ _ _ _ _ _ (cell-first (c .before .before .before)) _
     (λ s g h. cell-left s g _ _ _ h _ _ _ _ (stands (c .before .before .before .before)) _ (cell-is (c .before .before .before) s g h) _ _ (c .before .k .given .1))
 
 index-requires :
@@ -216,7 +216,7 @@ ls-less : tie.Need-ls-less Inv-ls μ-ls Inv-rs μ-rs Inv-cs μ-cs Inv-xs μ-xs I
 ls-less c = search needs
 
 ls-again : tie.Need-ls-again Inv-ls μ-ls Inv-rs μ-rs Inv-cs μ-cs Inv-xs μ-xs Inv-search μ-search
-ls-again c = passes _ _ _ _ _ (c .before .before .before .before .ls .inv) _ _ (λ s g h. read-here (c .before) s g h false (c .if1 .left))
+ls-again c = passes _ _ _ _ _ _ (c .before .before .before .before .ls .inv) _ _ (λ s g h. read-here (c .before) s g h false (c .if1 .left))
 
 enum-told : tie.Need-enum-told Inv-ls μ-ls Inv-rs μ-rs Inv-cs μ-cs Inv-xs μ-xs Inv-search μ-search
 enum-told c = search needs
@@ -231,10 +231,10 @@ rs-again : tie.Need-rs-again Inv-ls μ-ls Inv-rs μ-rs Inv-cs μ-cs Inv-xs μ-xs
 rs-again c = (
   omega (arith, c .before .before .before .rs .inv .0),
   ⊎-elim
-      (λ w. rw (w .5) (leaves _ _ _ _ _ (w .3 .inv) (λ s g h. outL s g _ _ _ _ _ _ (rw (h .ranged .layno1) at (w .4 .left)))))
+      (λ w. rw (w .5) (leaves _ _ _ _ _ _ (w .3 .inv) (λ s g h. outL s g _ _ _ _ _ _ (rw (h .ranged .layno1) at (w .4 .left)))))
       (λ w.
       rw (w .2)
-      (leaves _ _ _ _ _ (cell-first (c .before))
+      (leaves _ _ _ _ _ _ (cell-first (c .before))
       (λ s g h. cell-passed s g _ _ _ h _ _ _ _ (stands (c .before .before)) _ (cell-is (c .before) s g h) _ (w .1 .given .1))))
       (c .match .came),
 )
@@ -249,7 +249,7 @@ cs-again : tie.Need-cs-again Inv-ls μ-ls Inv-rs μ-rs Inv-cs μ-cs Inv-xs μ-xs
 cs-again c = (
   omega (arith, c .before .before .before .cs .inv .0),
   omega arith,
-  turns _ _ _ _ _ (c .before .rs .inv .1) _ (λ s g h. outR s g _ _ _ h _ _ _ _ _ (c .rs-test .left)),
+  turns _ _ _ _ _ _ (c .before .rs .inv .1) _ (λ s g h. outR s g _ _ _ h _ _ _ _ _ (c .rs-test .left)),
 )
 
 next-column-requires :
@@ -267,7 +267,7 @@ xs-again c = (
   omega (arith, column-up c, c .before .before .before .before .xs .inv .0),
   omega arith,
   omega arith,
-  onward _ _ _ _ (leaves _ _ _ _ _ (c .before .before .cs .inv .2) (λ s g h. outC s g _ _ _ h _ _ _ _ _ (c .before .cs-test .left))) _ (λ s g h. rw (column-here c s g h .0)),
+  onward _ _ _ _ _ (leaves _ _ _ _ _ _ (c .before .before .cs .inv .2) (λ s g h. outC s g _ _ _ h _ _ _ _ _ (c .before .cs-test .left))) _ (λ s g h. rw (column-here c s g h .0)),
 )
 
 next-row-requires :
@@ -287,16 +287,16 @@ search-again c = (
   omega arith,
   omega arith,
   omega arith,
-  onward _ _ _ _ (c .before .before .xs .inv .3) _ (λ s g h. rw (row-here c s g h .0) (outX s g _ _ _ h _ _ _ _ _ (c .before .xs-test .left))),
+  onward _ _ _ _ _ (c .before .before .xs .inv .3) _ (λ s g h. rw (row-here c s g h .0) (outX s g _ _ _ h _ _ _ _ _ (c .before .xs-test .left))),
 )
 
 -- left by the outermost test: nothing is left
 returns : tie.Need-returns Inv-ls μ-ls Inv-rs μ-rs Inv-cs μ-cs Inv-xs μ-xs Inv-search μ-search
-returns c = ends _ _ _ _ (c .before .search .inv .4) (λ s g h. outY s g _ _ _ h _ _ _ _ _ (c .search-test .left))
+returns c = ends _ _ _ _ _ (c .before .search .inv .4) (λ s g h. outY s g _ _ _ h _ _ _ _ _ (c .search-test .left))
 
 -- left by the break: what is free is found
 returns-2 : tie.Need-returns-2 Inv-ls μ-ls Inv-rs μ-rs Inv-cs μ-cs Inv-xs μ-xs Inv-search μ-search
-returns-2 c = finds _ _ _ _ _ (c .before .before .before .before .ls .inv) _ _ (λ s g h. read-here (c .before) s g h true (c .if1 .taken))
+returns-2 c = finds _ _ _ _ _ _ (c .before .before .before .before .ls .inv) _ _ (λ s g h. read-here (c .before) s g h true (c .if1 .taken))
 
 pub pcrl-spec : {M : Type 1} → statement M
 pcrl-spec =

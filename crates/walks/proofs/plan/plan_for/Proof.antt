@@ -26,14 +26,14 @@ returns c =
     let a = c .before .before .before .before .before .before .args in
     let g = c .before .before .before .before .before .of .ensures in (
       by-bits orderOf (a .q .prg) (search needs) (c .of2 .ensures) ∙ order-admitted (a .st) (a .q) (ap (admits (a .st)) (sym g) ∙ sym (c .before .before .before .some-admitted .ensures) ∙ c .before .before .if1 .taken),
-      c .before .before .before .before .walk-of .ensures ∙ ap (λ (x : Range). walkFor (a .st) (endedAt (a .st .reports .«max_res») x)) g,
+      c .before .before .before .before .walk-of .ensures ∙ ap (λ (x : Range). walkFor (a .st) (endedAt (a .st .reports .«max_res») x) (a .viewer)) g,
     )
 
 returns-2 : tie.Need-returns-2
 returns-2 c =
     let a = c .before .before .before .before .args in
     let g = c .before .before .before .of .ensures in
-    (order-none (a .st) (a .q) (ap (admits (a .st)) (sym g) ∙ sym (c .before .some-admitted .ensures) ∙ c .if1 .left), c .before .before .walk-of .ensures ∙ ap (λ (x : Range). walkFor (a .st) (endedAt (a .st .reports .«max_res») x)) g)
+    (order-none (a .st) (a .q) (ap (admits (a .st)) (sym g) ∙ sym (c .before .some-admitted .ensures) ∙ c .if1 .left), c .before .before .walk-of .ensures ∙ ap (λ (x : Range). walkFor (a .st) (endedAt (a .st .reports .«max_res») x) (a .viewer)) g)
 
 pub plan-for-spec : {M : Type 1} → statement M
 plan-for-spec =

@@ -21,7 +21,7 @@ use Rattle.walks.proofs.rlcp.rlcp.Tie as tie
 
 -- nothing is found yet, and the rest answers as the whole at entry
 abbrev Kept : List ℕ → List ℕ → Walk → ℕ → ℕ → ℕ → ℕ → Found → Rest → Type 0
-Kept marks counts w r l c k found rest = Going (λ s g. Counted s g counts w marks) marks (entry r l c k) found rest
+Kept marks counts w r l c k found rest = Going (w .viewer) (λ s g. Counted s g counts w marks) marks (entry r l c k) found rest
 
 abbrev Inv-ks : tie.InvT-ks
 Inv-ks marks counts w r-from l-from c-from k-from layno1 resno1 compno0 compno1 l-at c-at k-at found₀ r l c count k₀ found k =
@@ -87,26 +87,26 @@ read-here : (c : tie.After-is-free Inv-ks μ-ks Inv-cs μ-cs Inv-ls μ-ls Inv-se
     let i = d .before .cs .c in
     let k = c .before .before .before .ks .k in
     CountedIn d s g → (t : Bool) → c .is-free .result ≡ t
-    → (leftK l r i k s g ≡ placeOf l r i k ∷ leftK l r i (k + 1) s g) × (freeAt (start d .args .marks .now) (indexOf (s .st) (placeOf l r i k)) ≡ t))
+    → (leftK l r i k s g ≡ placeOf l r i k ∷ leftK l r i (k + 1) s g) × (freeAt (start d .args .w .viewer) (start d .args .marks .now) (indexOf (s .st) (placeOf l r i k)) ≡ t))
 read-here c s g h t e =
     mark-read s g _ _ _ h _ _ _ (stands (c .before .before .before .before .before)) _ (c .before .before .before .before .number-at .ensures) _ (c .before .before .ks-test .taken)
-    _ _ _ (c .before .index .ensures) (c .is-free .ensures) e
+    _ _ _ _ (c .before .index .ensures) (c .is-free .ensures) e
 
 search-holds : tie.Need-search-holds Inv-ks μ-ks Inv-cs μ-cs Inv-ls μ-ls Inv-search μ-search
-search-holds c = let p = c .before .pre .1 in (p .0, p .1, starts _ _ _)
+search-holds c = let p = c .before .pre .1 in (p .0, p .1, starts _ _ _ _)
 
 ls-holds : tie.Need-ls-holds Inv-ks μ-ks Inv-cs μ-cs Inv-ls μ-ls Inv-search μ-search
-ls-holds c = let i = c .before .search .inv in (i .1, onward _ _ _ _ (i .2) _ (λ s g h. inR s g _ _ _ h _ _ _ _ (c .search-test .taken)))
+ls-holds c = let i = c .before .search .inv in (i .1, onward _ _ _ _ _ (i .2) _ (λ s g h. inR s g _ _ _ h _ _ _ _ (c .search-test .taken)))
 
 cs-holds : tie.Need-cs-holds Inv-ks μ-ks Inv-cs μ-cs Inv-ls μ-ls Inv-search μ-search
-cs-holds c = let i = c .before .ls .inv in (i .0, splits _ _ _ _ (i .1) _ _ (λ s g h. inL s g _ _ _ h _ _ _ _ (c .ls-test .taken)))
+cs-holds c = let i = c .before .ls .inv in (i .0, splits _ _ _ _ _ (i .1) _ _ (λ s g h. inL s g _ _ _ h _ _ _ _ (c .ls-test .taken)))
 
 number-at-requires :
     tie.Need-number-at-requires Inv-ks μ-ks Inv-cs μ-cs Inv-ls μ-ls Inv-search μ-search
 number-at-requires c κs = let p = start c .pre .0 in held (p .0) (p .1 .0) _ _ _ (p .1 .1) _ _ _ (stands c)
 
 ks-holds : tie.Need-ks-holds Inv-ks μ-ks Inv-cs μ-cs Inv-ls μ-ls Inv-search μ-search
-ks-holds c = turns _ _ _ _ _ (c .before .before .cs .inv .1) _ (λ s g h. inC s g _ _ _ _ (rw (h .ranged .compno1) at (c .before .cs-test .taken)))
+ks-holds c = turns _ _ _ _ _ _ (c .before .before .cs .inv .1) _ (λ s g h. inC s g _ _ _ _ (rw (h .ranged .compno1) at (c .before .cs-test .taken)))
 
 index-requires : tie.Need-index-requires Inv-ks μ-ks Inv-cs μ-cs Inv-ls μ-ls Inv-search μ-search
 index-requires c κs =
@@ -125,7 +125,7 @@ ks-less : tie.Need-ks-less Inv-ks μ-ks Inv-cs μ-cs Inv-ls μ-ls Inv-search μ-
 ks-less c = search needs
 
 ks-again : tie.Need-ks-again Inv-ks μ-ks Inv-cs μ-cs Inv-ls μ-ls Inv-search μ-search
-ks-again c = passes _ _ _ _ _ (c .before .before .before .before .ks .inv) _ _ (λ s g h. read-here (c .before) s g h false (c .if1 .left))
+ks-again c = passes _ _ _ _ _ _ (c .before .before .before .before .ks .inv) _ _ (λ s g h. read-here (c .before) s g h false (c .if1 .left))
 
 add-c : tie.Need-add-c Inv-ks μ-ks Inv-cs μ-cs Inv-ls μ-ls Inv-search μ-search
 add-c c = search needs
@@ -136,7 +136,7 @@ cs-less c = search needs
 cs-again : tie.Need-cs-again Inv-ks μ-ks Inv-cs μ-cs Inv-ls μ-ls Inv-search μ-search
 cs-again c = (
   omega (arith, c .before .before .before .before .cs .inv .0),
-  turns _ _ _ _ _ (c .before .ks .inv) _
+  turns _ _ _ _ _ _ (c .before .ks .inv) _
       (λ s g h. outK s g _ _ _ _ (rw (count-is s g _ _ _ h _ _ _ (stands (c .before .before .before)) _ (c .before .before .number-at .ensures)) at (c .ks-test .left))),
 )
 
@@ -149,7 +149,7 @@ ls-less c = search needs
 ls-again : tie.Need-ls-again Inv-ks μ-ks Inv-cs μ-cs Inv-ls μ-ls Inv-search μ-search
 ls-again c = (
   omega arith,
-  leaves _ _ _ _ _ (c .before .cs .inv .1) (λ s g h. outC s g _ _ _ _ (rw (h .ranged .compno1) at (c .cs-test .left))),
+  leaves _ _ _ _ _ _ (c .before .cs .inv .1) (λ s g h. outC s g _ _ _ _ (rw (h .ranged .compno1) at (c .cs-test .left))),
 )
 
 add-r : tie.Need-add-r Inv-ks μ-ks Inv-cs μ-cs Inv-ls μ-ls Inv-search μ-search
@@ -162,16 +162,16 @@ search-again : tie.Need-search-again Inv-ks μ-ks Inv-cs μ-cs Inv-ls μ-ls Inv-
 search-again c = (
   omega (arith, c .before .before .before .search .inv .0),
   omega arith,
-  onward _ _ _ _ (c .before .ls .inv .1) _ (λ s g h. outL s g _ _ _ h _ _ _ _ (c .ls-test .left)),
+  onward _ _ _ _ _ (c .before .ls .inv .1) _ (λ s g h. outL s g _ _ _ h _ _ _ _ (c .ls-test .left)),
 )
 
 -- left by the outermost test: nothing is left
 returns : tie.Need-returns Inv-ks μ-ks Inv-cs μ-cs Inv-ls μ-ls Inv-search μ-search
-returns c = ends _ _ _ _ (c .before .search .inv .2) (λ s g h. outR s g _ _ _ h _ _ _ _ (c .search-test .left))
+returns c = ends _ _ _ _ _ (c .before .search .inv .2) (λ s g h. outR s g _ _ _ h _ _ _ _ (c .search-test .left))
 
 -- left by the break: what is free is found
 returns-2 : tie.Need-returns-2 Inv-ks μ-ks Inv-cs μ-cs Inv-ls μ-ls Inv-search μ-search
-returns-2 c = finds _ _ _ _ _ (c .before .before .before .before .ks .inv) _ _ (λ s g h. read-here (c .before) s g h true (c .if1 .taken))
+returns-2 c = finds _ _ _ _ _ _ (c .before .before .before .before .ks .inv) _ _ (λ s g h. read-here (c .before) s g h true (c .if1 .taken))
 
 pub rlcp-spec : {M : Type 1} → statement M
 rlcp-spec =
