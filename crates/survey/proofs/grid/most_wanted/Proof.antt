@@ -4,7 +4,7 @@ use mir.Val.{SFits}
 use mir.Syntax.{w32}
 use mir.Facts.{toZ-ofZ}
 use Rattle.packets.specs.Grid.{changeOf}
-use Rattle.survey.specs.Passing.{wantOf, wantFor}
+use Rattle.survey.specs.Passing.{wantFor}
 use Rattle.survey.proofs.Orders.{wanted-up-to}
 use Rattle.laws.specs.Below.{maxBelow, max-none, max-more}
 use borrow.Author.Needs.{needs}

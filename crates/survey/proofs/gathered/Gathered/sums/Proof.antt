@@ -1,7 +1,6 @@
 -- `Gathered::sums`: a step that does not fit is told by 0, since none is 0. Assumes nothing.
 use borrow.Author.Needs.{needs}
-use mathlib.Core.Path.{_≡_}
-use Prim.Native.Nat.{ℕ, _+_, _*_, _^_, _≤_}
+use Prim.Native.Nat.{ℕ, _*_, _^_, _≤_}
 use native.Mathlib.Nat.{mul-pos, add-zero}
 use native.Mathlib.Omega.{arith}
 use lib.Pow.{pow-pos}
