@@ -1,5 +1,7 @@
-//! 01, 'Ranges and orders': a step from a cursor, found in the list of its progression's positions; and 02, P4: eight
-//! viewers, each with a bit of every mark.
+//! 01, 'Ranges and orders': a step from a cursor, found in the list of its progression's positions; and 02, P4 and P8:
+//! eight viewers, each with a bit of every mark and a number of packets still to come.
+
+use std::collections::BTreeSet;
 
 use oracle::sheet::Sheet;
 
@@ -83,6 +85,12 @@ impl Steps {
 
     pub fn mark_of(&self, position: Position) -> usize {
         self.tile.mark_of(position.packet)
+    }
+
+    /// 02, P8: the packets that some progression admits and that a viewer has not marked, counted in full.
+    pub fn to_come(&self, marks: &[u8], viewer: u32) -> u32 {
+        let admitted: BTreeSet<usize> = self.positions.iter().flatten().map(|&position| self.mark_of(position)).collect();
+        admitted.into_iter().filter(|&mark| is_free(marks[mark], viewer)).count() as u32
     }
 
     /// -9 where the marks do not suffice, then -15; else 0, and the viewer's bit is 0 in the marks needed.

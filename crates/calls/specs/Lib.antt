@@ -2,5 +2,6 @@
 pub mod Reports
 pub mod Refused
 pub mod Room
+pub mod Start
 pub mod Rectangle
 pub mod Whole

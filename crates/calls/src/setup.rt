@@ -3,15 +3,18 @@ use crate::marks;
 use crate::output::Output;
 use crate::reports;
 use crate::table;
+use soundness::totals::total;
 use survey::Source;
 use types::answer::SetUp;
+use types::answer::Started;
 use types::answer::Verdict;
+use types::followed::Followed;
 use types::state::State;
 use types::table::Entry;
 use types::table::entries;
 ghost use mathlib.Core.Path.{_≡_};
-ghost use Rattle.types.specs.Answers.{ofSetUp};
-ghost use Rattle.packets.specs.Calls.{setupOf};
+ghost use Rattle.types.specs.Answers.{numberOf, ofSetUp};
+ghost use Rattle.packets.specs.Calls.{startOf};
 ghost use Rattle.calls.specs.Refused.{refusedOf};
 ghost use Rattle.calls.specs.Room.{setupIn};
 
@@ -65,11 +68,22 @@ pub fn setup_for(sheet: &[u8], table: &mut [u8], marks: &mut [u8], output: Outpu
     refused(Verdict::Grid)
 }
 
-// Reads a sheet. If it is accepted, writes its table and clears the marks that it needs; a refusal, -1 to -7, changes nothing.
-pub fn setup(sheet: &[u8], table: &mut [u8], marks: &mut [u8]) -> SetUp
-    ensures says { λ r. ⌜ ofSetUp r ≡ setupOf (now (sheet .entry)) (now (table .entry)) (now (marks .entry)) .said ⌝ }
-    ensures written { λ _. ⌜ now (table .exit) ≡ setupOf (now (sheet .entry)) (now (table .entry)) (now (marks .entry)) .table ⌝ }
-    ensures cleared { λ _. ⌜ now (marks .exit) ≡ setupOf (now (sheet .entry)) (now (table .entry)) (now (marks .entry)) .marks ⌝ }
+// Reads a sheet. If it is accepted, writes its table, clears the marks that it needs, and gives every viewer all packets that some progression admits (02, P8); a
+// refusal, -1 to -7, changes nothing.
+pub fn setup(sheet: &[u8], table: &mut [u8], marks: &mut [u8]) -> Started
+    ensures says { λ r. ⌜ numberOf (r .verdict) ≡ startOf (now (sheet .entry)) (now (table .entry)) (now (marks .entry)) .number ⌝ }
+    ensures counts { λ r. ⌜ r .followed ≡ startOf (now (sheet .entry)) (now (table .entry)) (now (marks .entry)) .followed ⌝ }
+    ensures written { λ _. ⌜ now (table .exit) ≡ startOf (now (sheet .entry)) (now (table .entry)) (now (marks .entry)) .table ⌝ }
+    ensures cleared { λ _. ⌜ now (marks .exit) ≡ startOf (now (sheet .entry)) (now (table .entry)) (now (marks .entry)) .marks ⌝ }
 {
-    setup_for(sheet, table, marks, Output::Nothing)
+    let up = setup_for(sheet, table, marks, Output::Nothing);
+    let verdict = up.verdict;
+    let mut to_come: u32 = 0;
+    if verdict.number() == 0 {
+        to_come = total(up.state, table);
+    }
+    Started {
+        verdict,
+        followed: Followed::started(up.state, to_come),
+    }
 }

@@ -24,6 +24,7 @@ use Rattle.geometry.specs.Line.{boundOf, count, hitAt, columnOf}
 use Rattle.geometry.specs.declared.tile.Area.{Area}
 use Rattle.types.specs.State.{freshCursor, origin}
 use Rattle.types.specs.Viewers.{isViewer}
+use Rattle.types.specs.Totals.{totalFor}
 use Rattle.packets.specs.Sheet.{recordVerdict, dueAfter, readFrom, readVerdict, componentRecord, progressionAt, fieldsOf}
 use Rattle.packets.specs.Tile.{Sheet, width, height, resOf, rectangle, maxPrec, maxRes, dxMin, dyMin, reported, needed, indexOf, entriesBefore, tableBytes}
 use Rattle.types.specs.Orders.{orderOf, rangeOf}
@@ -32,14 +33,17 @@ use Rattle.types.specs.declared.order.Range.{Range}
 use Rattle.packets.specs.Grid.{changeOf, stepsFit, stepsDivide, gridAgreed}
 use Rattle.packets.specs.Positions.{met, numberAt, positionsIn, hasPositions}
 use Rattle.packets.specs.Table.{tableOf, sheetIn, sheetAt}
-use Rattle.packets.specs.Sound.{placeSound, componentsSound, progressionsSound, entrySound, tableSound, reportsSound, sheetSound, stateSound, isIn, cursorSound, sound}
+use Rattle.packets.specs.Sound.{placeSound, componentsSound, progressionsSound, entrySound, tableSound, reportsSound, sheetSound, stateSound, followedSound, isIn, cursorSound, sound}
+use Rattle.packets.specs.Totals.{layersAdmitted, total}
+use Rattle.packets.specs.Demands.{worldOf}
 use Rattle.packets.specs.Same.{samePosition, same, decided}
-use Rattle.packets.specs.Calls.{Setup, Step, setupVerdict, setupOf, joinOf, openOf, rectangleOf, refusal, listed, after, stepBy, stepOf}
+use Rattle.packets.specs.Calls.{Setup, Start, Step, setupVerdict, setupOf, startOf, joinOf, openOf, rectangleOf, refusal, listed, after, stepBy, stepOf}
 use Rattle.packets.specs.Traces.{Call, joins, opens, steps, Reply, joined as joinSaid, opened, stepped, Trace, traced}
 use Rattle.packets.specs.Text.{textOf, digitsUpTo}
 use Rattle.packets.specs.Strided.{strided, pointsFor}
 use Rattle.packets.specs.InPlay.{nextX, nextY, nextInPlay, in-play-listed}
 use Rattle.types.specs.declared.state.State.{State}
+use Rattle.types.specs.declared.followed.Followed.{Followed}
 use Rattle.types.specs.declared.cursor.Position.{Position}
 use Rattle.types.specs.declared.cursor.Place.{Place}
 use Rattle.types.specs.declared.cursor.Place.the-variants as place
@@ -243,18 +247,18 @@ moved none (place.At q) = false
 moved none place.Fresh = false
 moved none place.Ended = true
 
--- steps answer these numbers, each given what the one before has answered and left; then the rest holds over the marks left
-abbrev answering : (List ℕ → Cursor → Step) → List ℕ → Cursor → List ℕ → (List ℕ → Bool) → Bool
-answering go marks c [] rest = rest marks
-answering go marks c (n ∷ ns) rest =
-    let u : Step = go marks c in
+-- steps answer these numbers, each given what the one before has answered and left; then the rest holds over the state and the marks left
+abbrev answering : (Followed → List ℕ → Cursor → Step) → Followed → List ℕ → Cursor → List ℕ → (Followed → List ℕ → Bool) → Bool
+answering go f marks c [] rest = rest f marks
+answering go f marks c (n ∷ ns) rest =
+    let u : Step = go f marks c in
     sameNumber (u .said .number) (pos n)
-    && (moved (u .said .packet) (u .said .cursor .place) && answering go (u .marks) (u .said .cursor) ns rest)
+    && (moved (u .said .packet) (u .said .cursor .place) && answering go (u .followed) (u .marks) (u .said .cursor) ns rest)
 
 -- so for progression k and those after it, in turn
-abbrev inTurn : (List ℕ → Cursor → Step) → List ℕ → ℕ → List (List ℕ) → Bool
-inTurn go marks k [] = true
-inTurn go marks k (ns ∷ nss) = answering go marks (freshCursor 0 k) ns (λ m. inTurn go m (k + 1) nss)
+abbrev inTurn : (Followed → List ℕ → Cursor → Step) → Followed → List ℕ → ℕ → List (List ℕ) → Bool
+inTurn go f marks k [] = true
+inTurn go f marks k (ns ∷ nss) = answering go f marks (freshCursor 0 k) ns (λ g m. inTurn go g m (k + 1) nss)
 
 -- a refusal says no more
 abbrev ifAccepted : ℤ → Bool → Bool
@@ -262,18 +266,19 @@ ifAccepted (pos n) t = t
 ifAccepted (negsuc n) t = true
 
 -- what a row says holds, by a way of listing and a way of stepping. Lent bytes are all 255 before
-unfoldable pub holdsBy : (State → List ℕ → List Position) → (State → List ℕ → List ℕ → Cursor → Step) → Row → Bool
+unfoldable pub holdsBy : (State → List ℕ → List Position) → (Followed → List ℕ → List ℕ → Cursor → Step) → Row → Bool
 holdsBy list go row =
     let b : List ℕ = sheetBytes (row .sheet) in
-    let u : Setup = setupOf b (replicate (tableBytes (reported (sheetIn b))) 255) (replicate (row .marks) 255) in
-    let st : State = u .said .state in
+    let u : Start = startOf b (replicate (tableBytes (reported (sheetIn b))) 255) (replicate (row .marks) 255) in
+    let st : State = u .followed .state in
     let counts = eqb (needed st) (row .marks) && sameBy eqb (sizesOf (sheetIn b)) (row .sizes) in
     let packets = sameBy samePosition (list st (u .table)) (row .packets) in
-    let answers = inTurn (go st (u .table)) (u .marks) 0 (row .answers) in
-    let rest = counts && (packets && answers) in
-    sameNumber (u .said .number) (row .number) && ifAccepted (row .number) rest
+    let totals = sameBy eqb (u .followed .totals) (replicate 8 (length (row .packets))) in
+    let answers = inTurn (λ f. go f (u .table)) (u .followed) (u .marks) 0 (row .answers) in
+    let rest = counts && (packets && (totals && answers)) in
+    sameNumber (u .number) (row .number) && ifAccepted (row .number) rest
 
-unfoldable pub allBy : (State → List ℕ → List Position) → (State → List ℕ → List ℕ → Cursor → Step) → List Row → Bool
+unfoldable pub allBy : (State → List ℕ → List Position) → (Followed → List ℕ → List ℕ → Cursor → Step) → List Row → Bool
 allBy list go [] = true
 allBy list go (r ∷ rs) = holdsBy list go r && allBy list go rs
 
@@ -289,13 +294,14 @@ module _ (positions : Sheet → Range → Order → List Position) where
   listedBy : State → List ℕ → List Position
   listedBy st table = dedupe (indexOf st) (joined (map (positionsBy st table) (span 0 (st .progressions))))
 
-  stepVia : State → List ℕ → List ℕ → Cursor → Step
-  stepVia st table marks c =
+  stepVia : Followed → List ℕ → List ℕ → Cursor → Step
+  stepVia f table marks c =
+      let st : State = f .state in
       let ps : List Position = positionsBy st table (c .progression) in
       let v = c .viewer in
-      let found = stepBy st marks v (c .progression) (seek v (indexOf st) marks (after (c .place) ps)) in
-      cond (stateSound st table marks && (isViewer v && (ltb (c .progression) (st .progressions) && placeSound (c .place) ps))) found
-      (record { said = record { number = refusal 9; packet = none; cursor = c }; marks = marks })
+      let found = stepBy f marks v (c .progression) (seek v (indexOf st) marks (after (c .place) ps)) in
+      cond (followedSound f table marks v && (isViewer v && (ltb (c .progression) (st .progressions) && placeSound (c .place) ps))) found
+      (record { said = record { number = refusal 9; packet = none; cursor = c }; followed = f; marks = marks })
 
 -- positions by the next hit in play
 inPlay : Sheet → Range → Order → List Position
@@ -311,7 +317,7 @@ unfolding listedBy stepVia positionsBy listed stepOf sound cursorSound
 by-in-play rs = subst (λ (f : Sheet → Range → Order → List Position). allBy (listedBy f) (stepVia f) rs ≡ true) in-play
 
 in-play-hold : allBy (listedBy inPlay) (stepVia inPlay) rows ≡ true
-unfolding computed rows allBy holdsBy inPlay listedBy stepVia positionsBy setupOf sheetSound stateSound isIn componentsSound progressionsSound tableSound entrySound reportsSound same decided behind freeByte markedByte freeAt markAt seek nextInPlay least
+unfolding computed rows allBy holdsBy inPlay listedBy stepVia positionsBy setupOf startOf total layersAdmitted totalFor followedSound sheetSound stateSound isIn componentsSound progressionsSound tableSound entrySound reportsSound same decided behind freeByte markedByte freeAt markAt seek nextInPlay least
 in-play-hold = refl
 
 -- THEOREM: P-a to P-l and the cases of P5 and P6 hold
@@ -401,21 +407,25 @@ meetings =
     ∷ (steps (freshCursor 3 0), pos 1)
     ∷ []
 
--- the first packet is marked for viewers 0 and 3, the others for nobody
+-- the first packet is marked for viewers 0 and 3, the others for nobody; so of four packets three are still to come for these two
 abbrev marksLeft : List ℕ
 marksLeft = 9 ∷ replicate 7 0
+
+abbrev totalsLeft : List ℕ
+totalsLeft = 3 ∷ 4 ∷ 4 ∷ 3 ∷ replicate 4 4
 
 unfoldable pub meetingsHold : Bool
 meetingsHold =
     let b : List ℕ = sheetBytes byLayers in
     let st : State = reported (sheetIn b) in
-    let u : Setup = setupOf b (replicate (tableBytes st) 255) (replicate (needed st) 255) in
-    let t : Trace = traced (u .said .state) (u .table) (u .marks) (map (λ (m : Call × ℤ). m .0) meetings) in
-    sameBy sameNumber (map (λ (d : Call × Reply). numberOf (d .1)) (t .dealt)) (map (λ (m : Call × ℤ). m .1) meetings) && sameBy eqb (t .marks) marksLeft
+    let u : Start = startOf b (replicate (tableBytes st) 255) (replicate (needed st) 255) in
+    let t : Trace = traced (u .table) (worldOf u) (map (λ (m : Call × ℤ). m .0) meetings) in
+    sameBy sameNumber (map (λ (d : Call × Reply). numberOf (d .1)) (t .dealt)) (map (λ (m : Call × ℤ). m .1) meetings)
+    && (sameBy eqb (t .world .marks) marksLeft && sameBy eqb (t .world .followed .totals) totalsLeft)
 
 -- THEOREM: they are answered so
 pub meetings-hold : meetingsHold ≡ true
-unfolding computed meetings meetingsHold traced joinOf openOf stepOf setupOf sound cursorSound sheetSound stateSound isIn componentsSound progressionsSound tableSound entrySound reportsSound same decided behind freeByte markedByte clearedByte freeAt markAt clearedTo seek positionsIn
+unfolding computed meetings meetingsHold traced joinOf openOf stepOf setupOf startOf total layersAdmitted totalFor followedSound sound cursorSound sheetSound stateSound isIn componentsSound progressionsSound tableSound entrySound reportsSound same decided behind freeByte markedByte clearedByte freeAt markAt clearedTo seek positionsIn
 meetings-hold = refl
 
 -- THE TEXT. A line of one-digit numbers

@@ -32,8 +32,8 @@ module _ (r0 r1 pd : ℕ) where
   pub cells : (i : ℕ) → i < across r0 r1 pd → (r0 < r1) × (cell + i < ceilDiv r1 size)
   unfolding across
   cells i h =
-      let c = cond-some (ltb r0 r1) (ceilDiv r1 size - cell) (omega arith) in
-      (ltb-true r0 r1 (c .0), let k : i < ceilDiv r1 size - cell = rw (c .0) at h in omega arith)
+      let c = cond-some (ltb r0 r1) (ceilDiv r1 size - cell) h in
+      (ltb-true r0 r1 (c .0), omega (arith, c .1))
 
   -- a precinct starts before the end of the resolution, and ends after its start
   pub cell-before : (i : ℕ) → i < across r0 r1 pd → (cell + i) * size < r1

@@ -6,7 +6,7 @@ use Prim.Native.Nat.{ℕ, zero, suc, _+_, _*_, _≤_, _<_, min, max}
 use native.Mathlib.Nat.{eq-or-lt-of-le, le-of-suc-le-suc, mul-add, mul-one}
 use native.Mathlib.Numerals.{add-one}
 use native.Mathlib.Omega.{arith}
-use Rattle.laws.specs.Cases.{and-false, and-true}
+use Rattle.laws.specs.Cases.{and-false, and-true, le-or-lt}
 
 unfoldable pub allBelow : (ℕ → Bool) → ℕ → Bool
 allBelow f zero = true
@@ -104,6 +104,13 @@ module _ (f : ℕ → ℕ) where
   unfolding maxBelow
   max-least zero m h = omega arith
   max-least (suc n) m h = omega (arith, h n (omega arith), max-least n m (λ i l. h i (omega arith)))
+
+  -- what is below the largest is below one of them
+  pub max-some : (n i : ℕ) → i < maxBelow f n → (k : ℕ) × (k < n) × (i < f k)
+  unfolding maxBelow
+  max-some zero i h = not-below i h
+  max-some (suc n) i h =
+      ⊎-elim (λ l. let w = max-some n i (omega arith) in (w .0, omega (arith, w .1), w .2)) (λ l. (n, omega arith, l)) (le-or-lt (f n) i)
 
 module _ (a : ℕ) (f : ℕ → ℕ) where
   -- turn by turn

@@ -50,8 +50,8 @@ pub cond-zero : (t : Bool) (a n : ℕ) → (t ≡ false → n ≡ 0 → ⊥) →
 cond-zero true a n h e = (refl, e)
 cond-zero false a n h e = absurd (h refl e)
 
--- one that gives more than 0 has, where failing it gives 0
-pub cond-some : (t : Bool) (n : ℕ) → 0 < cond t n 0 → (t ≡ true) × (0 < n)
+-- one that gives more than a number has, where failing it gives 0
+pub cond-some : {i : ℕ} (t : Bool) (n : ℕ) → i < cond t n 0 → (t ≡ true) × (i < n)
 cond-some true n h = (refl, h)
 cond-some false n h = absurd (let z : ⊥ = omega arith in z)
 

@@ -38,4 +38,5 @@ pub mod Marks
 pub mod Runs
 pub mod Listing
 pub mod Frees
+pub mod Unmarked
 pub mod AllRuns

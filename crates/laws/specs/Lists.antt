@@ -2,6 +2,8 @@
 use mathlib.Core.Path.{_≡_, refl, sym, ap, _∙_}
 use mathlib.Core.List.{List, [], _∷_, _++_, map, List·Memᴰ as In, List·Memᴰ·head as here, List·Memᴰ·tail as there, List·Memᴰ·not-nil as not-in-nil, List·Memᴰ·cases-cons as in-cons, Memᴰ·cast as in-cast, Memᴰ·append-right as in-right, List·Memᴰ·append-cases as in-append}
 use mathlib.Core.Logic.{_⊎_, inl, inr, ⊎-elim, ite, if-pos, if-neg}
+use Prim.Native.Nat.{suc}
+use lib.ListN.{length}
 
 -- no element occurs twice
 pub data NoRepeats {A : Type 0} : List A → Type 0 where
@@ -83,6 +85,15 @@ module _ {A : Type 0} where
   pub rearranged-sym : {xs zs : List A} → Rearranged xs zs → Rearranged zs xs
   rearranged-sym empty = empty
   rearranged-sym (put q r) = put-left q (rearranged-sym r)
+
+  -- a rearrangement has the same length
+  put-length : {x : A} {zs ys : List A} → Put x zs ys → length ys ≡ suc (length zs)
+  put-length (front e) = refl
+  put-length (later p) = ap suc (put-length p)
+
+  pub rearranged-length : {xs zs : List A} → Rearranged xs zs → length xs ≡ length zs
+  rearranged-length empty = refl
+  rearranged-length (put q r) = ap suc (rearranged-length r) ∙ sym (put-length q)
 
   put-swap : {x y : A} {ks bs cs : List A} → Put y bs cs → Put x ks bs → (ds : List A) × Put x ds cs × Put y ks ds
   put-swap {ks = ks} (front {y = c} e) q = (c ∷ ks, later q, front e)

@@ -6,7 +6,9 @@ use mathlib.Core.Logic.{⊎-elim}
 use Prim.Native.Nat.{ℕ, _+_, _≤_, _<_}
 use native.Mathlib.Decide.{ℕ-discrete}
 use native.Mathlib.Omega.{arith}
-use Rattle.laws.specs.Gather.{gather, keep}
+use lib.ListN.{length}
+use Rattle.laws.specs.Cases.{split}
+use Rattle.laws.specs.Gather.{gather, only, keep}
 use Rattle.laws.specs.Axis.{span}
 use Rattle.laws.specs.Spans.{span-head, by-span}
 use Rattle.laws.specs.Lists.{NoRepeats, none, more}
@@ -48,6 +50,16 @@ module _ {A : Type 0} (t : A → Bool) where
   unfolding gather
   keep-none [] h = refl
   keep-none (x ∷ xs) h = rw (h x (here refl), keep-none xs (λ a i. h a (there i)))
+
+  -- no more are kept than there are
+  pub keep-few : (xs : List A) → length (keep t xs) ≤ length xs
+  unfolding gather
+  keep-few [] = omega arith
+  keep-few (x ∷ xs) = let h = keep-few xs in split (t x) (λ e. rw e (omega arith)) (λ e. rw e (omega arith))
+
+-- tests that agree on the members keep the same
+pub keep-same : {A : Type 0} (s t : A → Bool) (xs : List A) → ((a : A) → In a xs → s a ≡ t a) → keep s xs ≡ keep t xs
+keep-same s t xs h = gather-same (λ a. only (s a) a) (λ a. only (t a) a) xs (λ a i. rw (h a i))
 
 -- a span has every number from a to b
 pub in-span : (i b a : ℕ) → a ≤ i → i < b → In i (span a b)

@@ -6,5 +6,4 @@ pub mod Put
 pub mod Lines
 pub mod Records
 pub mod Padded
-pub mod Few
 pub mod Printed

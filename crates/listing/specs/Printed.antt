@@ -19,13 +19,13 @@ use Rattle.packets.specs.Table.{sheetIn, tableOf}
 use Rattle.packets.specs.Calls.{refusal, accepted, setupVerdict, listed, recordsOf, Run, runVerdict, ranOver, wholeRunOf}
 use Rattle.packets.specs.Meaning.{Sound, sound-means}
 use Rattle.packets.specs.Text.{decimal, linesOf, refusedLine, textOf}
-use Rattle.packets.specs.WholeRun.{Passed, setup-passed, accepted-sound, accepted-clear, run-refuses}
+use Rattle.packets.specs.WholeRun.{Passed, setup-passed, accepted-sound, run-refuses}
 use Rattle.types.specs.declared.state.State.{State}
 use Rattle.types.specs.declared.cursor.Position.{Position}
 use Rattle.listing.specs.Lines.{linesAt}
 use Rattle.listing.specs.Records.{output-lines}
 use Rattle.listing.specs.Padded.{padded-listed}
-use Rattle.listing.specs.Few.{listed-few}
+use Rattle.packets.specs.Admitted.{listed-few}
 
 -- where a verdict is one before the table's, the table does not matter
 tested : (read grid many enough room : Bool) (v : ℕ) → (cond read (cond grid (cond many (cond enough 0 6) 5) 4) v ≡ 0 → ⊥)
@@ -123,7 +123,7 @@ module _ (sheet : List ℕ) (bytes : Bytes sheet) where
 
     packets-few : length packets ≤ 2048
     packets-few =
-        let own-few = listed-few st (accepted sheet own marks .table) (accepted sheet own marks .marks) (sound v) (accepted-clear sheet own marks bytes (passed v)) in
+        let own-few = listed-few st (accepted sheet own marks .table) (accepted sheet own marks .marks) (accepted-sound sheet own marks bytes (passed v)) in
         let same : length packets ≡ length (listed st (accepted sheet own marks .table)) = ap length (padded-listed (sheetIn sheet) st 8448 (tableBytes st)) in
         let few : needed st ≤ 2048 = rw (long 2048) at (passed v .enough) in
         omega (arith, own-few, same, few)

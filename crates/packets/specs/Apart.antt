@@ -45,10 +45,11 @@ by-number verdict.Marks = refl
 by-number verdict.Table = refl
 by-number verdict.Output = refl
 
+pub verdict-apart : (v w : Verdict) → numberOf v ≡ numberOf w → v ≡ w
+verdict-apart v w e = sym (by-number v) ∙ ap byNumber e ∙ by-number w
+
 pub setup-apart : (r s : SetUp) → ofSetUp r ≡ ofSetUp s → r ≡ s
-setup-apart r s e =
-    let v = sym (by-number (r .verdict)) ∙ ap (λ (x : SetUpSaid). byNumber (x .number)) e ∙ by-number (s .verdict) in
-    λ i. record { verdict = v i; state = e i .state }
+setup-apart r s e = λ i. record { verdict = verdict-apart (r .verdict) (s .verdict) (ap (λ (x : SetUpSaid). x .number) e) i; state = e i .state }
 
 -- an opening from what it says
 byCursor : Option Cursor → ℤ → Opened

@@ -14,15 +14,18 @@ use Rattle.laws.specs.Runs.{Answer, Packet, Ended, seek, mark, marked}
 use Rattle.laws.specs.AllRuns.{joined, dedupe}
 use Rattle.types.specs.State.{emptyState, freshCursor, endedCursor}
 use Rattle.types.specs.Viewers.{isViewer}
+use Rattle.types.specs.Totals.{startedWith, totalFor, withTotal}
 use Rattle.words.specs.Words.{wordsBytes, over}
 use Rattle.packets.specs.Sheet.{readVerdict}
 use Rattle.packets.specs.Tile.{precincts, rectangle, reported, needed, indexOf, tableBytes}
 use Rattle.packets.specs.Grid.{gridAgreed}
 use Rattle.packets.specs.Table.{sheetIn, sheetAt, tableOf}
 use Rattle.types.specs.Answers.{SetUpSaid, OpenSaid, StepSaid, RectangleSaid}
-use Rattle.packets.specs.Sound.{sheetSound, stateSound, sound, positionsFor}
+use Rattle.packets.specs.Totals.{total}
+use Rattle.packets.specs.Sound.{sheetSound, followedSound, sound, positionsFor}
 use Rattle.packets.specs.Same.{same}
 use Rattle.types.specs.declared.state.State.{State}
+use Rattle.types.specs.declared.followed.Followed.{Followed}
 use Rattle.types.specs.declared.cursor.Position.{Position}
 use Rattle.types.specs.declared.cursor.Place.{Place}
 use Rattle.types.specs.declared.cursor.Place.the-variants as place
@@ -68,23 +71,47 @@ setupOf sheet table marks =
     let v = setupVerdict sheet table marks in
     cond (eqb v 0) (accepted sheet table marks) (turnedAway v table marks)
 
--- JOIN. 02, P4: joining clears the viewer's bit alone, in the needed marks; -9, then -15 for a viewer over 7
-pub record Join : Type 0 where
+-- .. AND WHO FOLLOWS IT. 02, P8: setup gives every viewer the number of packets that some progression admits; with a refusal, whose state has no components, that is 0
+pub record Start : Type 0 where
   pub number : ℤ
+  pub followed : Followed
+  pub table : List ℕ
   pub marks : List ℕ
 
-unfoldable pub joinOf : State → List ℕ → List ℕ → ℕ → Join
-joinOf st table marks v =
-    cond (stateSound st table marks)
-    (cond (isViewer v) (record { number = pos 0; marks = clearedTo v (needed st) marks }) (record { number = refusal 15; marks = marks }))
-    (record { number = refusal 9; marks = marks })
+-- that number, by a state and its table
+abbrev pub totalOf : State → List ℕ → ℕ
+totalOf st table = total (sheetAt st table)
+
+unfoldable pub startOf : List ℕ → List ℕ → List ℕ → Start
+startOf sheet table marks =
+    let u : Setup = setupOf sheet table marks in
+    record {
+      number = u .said .number;
+      followed = startedWith (u .said .state) (totalOf (u .said .state) (u .table));
+      table = u .table;
+      marks = u .marks;
+    }
+
+-- JOIN. 02, P4: joining clears the viewer's bit alone, in the needed marks; -9, then -15 for a viewer over 7. P8: it gives that number anew to its viewer
+pub record Join : Type 0 where
+  pub number : ℤ
+  pub followed : Followed
+  pub marks : List ℕ
+
+unfoldable pub joinOf : Followed → List ℕ → List ℕ → ℕ → Join
+joinOf f table marks v =
+    cond (followedSound f table marks v)
+    (cond (isViewer v)
+    (record { number = pos 0; followed = withTotal f v (totalOf (f .state) table); marks = clearedTo v (needed (f .state)) marks })
+    (record { number = refusal 15; followed = f; marks = marks }))
+    (record { number = refusal 9; followed = f; marks = marks })
 
 -- OPEN. 01, and 02, P4: -9, -15 for a viewer over 7, -11; opening a progression again gives a fresh cursor over the marks as they are
-unfoldable pub openOf : State → List ℕ → List ℕ → ℕ → ℕ → OpenSaid
-openOf st table marks v k =
-    cond (stateSound st table marks)
+unfoldable pub openOf : Followed → List ℕ → List ℕ → ℕ → ℕ → OpenSaid
+openOf f table marks v k =
+    cond (followedSound f table marks v)
     (cond (isViewer v)
-    (cond (ltb k (st .progressions))
+    (cond (ltb k (f .state .progressions))
     (record { number = pos 0; cursor = some (freshCursor v k) })
     (record { number = refusal 11; cursor = none }))
     (record { number = refusal 15; cursor = none }))
@@ -108,21 +135,27 @@ after place.Ended ps = []
 
 pub record Step : Type 0 where
   pub said : StepSaid
+  pub followed : Followed
   pub marks : List ℕ
 
--- 01: 1, the packet marked and returned with the moved cursor; or 0, the cursor is ended
-abbrev pub stepBy : State → List ℕ → ℕ → ℕ → Answer Position → Step
-stepBy st marks v k (Packet p) =
-    record { said = record { number = pos 1; packet = some p; cursor = record { viewer = v; progression = k; place = place.At p } }; marks = mark v (indexOf st) marks p }
-stepBy st marks v k Ended = record { said = record { number = pos 0; packet = none; cursor = endedCursor v k }; marks = marks }
+-- 01: 1, the packet marked and returned with the moved cursor; or 0, the cursor is ended. 02, P8: a step that finds takes one from its own viewer's total, 0 staying 0
+abbrev pub stepBy : Followed → List ℕ → ℕ → ℕ → Answer Position → Step
+stepBy f marks v k (Packet p) =
+    record {
+      said = record { number = pos 1; packet = some p; cursor = record { viewer = v; progression = k; place = place.At p } };
+      followed = withTotal f v (totalFor f v - 1);
+      marks = mark v (indexOf (f .state)) marks p;
+    }
+stepBy f marks v k Ended = record { said = record { number = pos 0; packet = none; cursor = endedCursor v k }; followed = f; marks = marks }
 
 -- 01: a refused step answers also the cursor as given
-unfoldable pub stepOf : State → List ℕ → List ℕ → Cursor → Step
-stepOf st table marks c =
+unfoldable pub stepOf : Followed → List ℕ → List ℕ → Cursor → Step
+stepOf f table marks c =
+    let st : State = f .state in
     let v = c .viewer in
-    let found = stepBy st marks v (c .progression) (seek v (indexOf st) marks (after (c .place) (positionsFor st table (c .progression)))) in
-    cond (sound st table marks c) found
-    (record { said = record { number = refusal 9; packet = none; cursor = c }; marks = marks })
+    let found = stepBy f marks v (c .progression) (seek v (indexOf st) marks (after (c .place) (positionsFor st table (c .progression)))) in
+    cond (sound f table marks c) found
+    (record { said = record { number = refusal 9; packet = none; cursor = c }; followed = f; marks = marks })
 
 -- WHOLE RUN. What it answers and leaves
 pub record Run : Type 0 where

@@ -24,45 +24,48 @@ use Rattle.words.specs.Words.{wordsBytes, over}
 use Rattle.words.specs.Laws.{Bytes}
 use Rattle.types.specs.State.{emptyState, freshCursor, endedCursor}
 use Rattle.types.specs.Viewers.{isViewer}
+use Rattle.types.specs.Totals.{startedWith, totalFor, withTotal}
 use Rattle.packets.specs.Sheet.{wd, componentRecord, resolutionRecord}
 use Rattle.packets.specs.Tile.{needed, indexOf}
 use Rattle.packets.specs.Table.{entryWord}
 use Rattle.packets.specs.Sound.{sound}
-use Rattle.packets.specs.Refusals.{setup-keeps, join-keeps, open-keeps, step-keeps, rectangle-keeps, run-keeps, bounds-keeps}
-use Rattle.packets.specs.Calls.{Setup, setupOf, joinOf, openOf, rectangleOf, stepOf, wholeRunOf, recordsOf}
+use Rattle.packets.specs.Refusals.{start-keeps, join-keeps, open-keeps, step-keeps, rectangle-keeps, run-keeps, bounds-keeps}
+use Rattle.packets.specs.Calls.{Start, startOf, joinOf, openOf, rectangleOf, stepOf, wholeRunOf, recordsOf}
 use Rattle.packets.specs.Bounds.{boundsOf}
 use Rattle.packets.specs.Host.{Turn, mostSteps, callTurn, Hosted, hostCalls, answered}
-use Rattle.packets.specs.Traces.{Call, opens, Reply, opened, Trace, traced, dealtWhere, writes, Running, toldRun}
+use Rattle.packets.specs.Traces.{Call, opens, Reply, opened, World, Trace, traced, dealtWhere, writes, Running, toldRun}
 use Rattle.packets.specs.Wanted.{sheetOf, standardOf, standardAll, samePacket, firsts}
-use Rattle.packets.specs.WholeRun.{setup-zero, whole-run-calls}
+use Rattle.packets.specs.WholeRun.{start-zero, whole-run-calls}
 use Rattle.packets.specs.Own.{own-wide, own-high}
 use Rattle.packets.specs.Among.{listsOf}
-use Rattle.packets.specs.OwnRun.{own-turn, own-went, own-cursors, own-order, own-once, own-only, own-set, own-clear, own-beyond, own-size, own-long, own-lists, own-exists, own-answers, among-set, among-clear, among-beyond, among-size, own-none-left, own-opened, own-ended, own-reopened, own-fresh}
+use Rattle.packets.specs.Counting.{unmarked}
+use Rattle.packets.specs.OwnRun.{own-turn, own-went, own-cursors, own-order, own-once, own-only, own-set, own-clear, own-beyond, own-size, own-long, own-lists, own-exists, own-state, own-total, own-answers, among-set, among-clear, among-beyond, among-size, among-none, own-none-left, own-opened, own-ended, own-reopened, own-fresh}
 use Rattle.types.specs.declared.state.State.{State}
+use Rattle.types.specs.declared.followed.Followed.{Followed}
 use Rattle.types.specs.declared.cursor.Position.{Position}
 use Rattle.types.specs.declared.cursor.Cursor.{Cursor}
 
 -- DEMAND 1: a call whose number is below 0, which is negsuc n for -(n + 1), leaves everything lent as it was and answers nothing but that number.
 -- (Setup for C: host, specs/Setup.antt.)
--- Setup, which answers the empty state then
-pub demand-1-setup : (sheet table marks : List ℕ) (n : ℕ) → setupOf sheet table marks .said .number ≡ negsuc n
-    → setupOf sheet table marks ≡ record { said = record { number = negsuc n; state = emptyState }; table = table; marks = marks }
-demand-1-setup sheet table marks = setup-keeps sheet table marks
+-- Setup, which answers the empty state then, and totals of 0
+pub demand-1-setup : (sheet table marks : List ℕ) (n : ℕ) → startOf sheet table marks .number ≡ negsuc n
+    → startOf sheet table marks ≡ record { number = negsuc n; followed = startedWith emptyState 0; table = table; marks = marks }
+demand-1-setup sheet table marks = start-keeps sheet table marks
 
 -- opening, which is lent nothing that it could change; it answers no cursor
-pub demand-1-open : (st : State) (table marks : List ℕ) (v k n : ℕ) → openOf st table marks v k .number ≡ negsuc n
-    → openOf st table marks v k ≡ record { number = negsuc n; cursor = none }
-demand-1-open st table marks = open-keeps st table marks
+pub demand-1-open : (f : Followed) (table marks : List ℕ) (v k n : ℕ) → openOf f table marks v k .number ≡ negsuc n
+    → openOf f table marks v k ≡ record { number = negsuc n; cursor = none }
+demand-1-open f table marks = open-keeps f table marks
 
--- joining
-pub demand-1-join : (st : State) (table marks : List ℕ) (v n : ℕ) → joinOf st table marks v .number ≡ negsuc n
-    → joinOf st table marks v ≡ record { number = negsuc n; marks = marks }
-demand-1-join st table marks = join-keeps st table marks
+-- joining, which answers the state with its totals as given
+pub demand-1-join : (f : Followed) (table marks : List ℕ) (v n : ℕ) → joinOf f table marks v .number ≡ negsuc n
+    → joinOf f table marks v ≡ record { number = negsuc n; followed = f; marks = marks }
+demand-1-join f table marks = join-keeps f table marks
 
--- a step, which answers the cursor as given
-pub demand-1-step : (st : State) (table marks : List ℕ) (c : Cursor) (n : ℕ) → stepOf st table marks c .said .number ≡ negsuc n
-    → stepOf st table marks c ≡ record { said = record { number = negsuc n; packet = none; cursor = c }; marks = marks }
-demand-1-step st table marks = step-keeps st table marks
+-- a step, which answers the cursor, and the state with its totals, as given
+pub demand-1-step : (f : Followed) (table marks : List ℕ) (c : Cursor) (n : ℕ) → stepOf f table marks c .said .number ≡ negsuc n
+    → stepOf f table marks c ≡ record { said = record { number = negsuc n; packet = none; cursor = c }; followed = f; marks = marks }
+demand-1-step f table marks = step-keeps f table marks
 
 -- the rectangle of a precinct, a call that is lent nothing that it could change
 pub demand-1-rectangle : (st : State) (table : List ℕ) (c r k n : ℕ) → rectangleOf st table c r k .number ≡ negsuc n
@@ -104,39 +107,41 @@ numprecincts tr0 tr1 pp = cond (ltb tr0 tr1) (ceilDiv tr1 (2 ^ pp) - tr0 / 2 ^ p
 
 -- the width and the height that setup writes into the table for resolution r of component c of a sheet that it accepts, by the words of that sheet's own records
 -- (i and j): the steps dx and dy are XRsiz and YRsiz, the exponents pdx and pdy PPx and PPy, and N_L is resolutions - 1
-pub demand-2-precincts : (sheet table marks : List ℕ) → Bytes sheet → (let u : Setup = setupOf sheet table marks in u .said .number ≡ pos 0
+pub demand-2-precincts : (sheet table marks : List ℕ) → Bytes sheet → (let u : Start = startOf sheet table marks in u .number ≡ pos 0
     → (c r : ℕ) → (let i = componentRecord sheet c in let j = resolutionRecord sheet c r in
     let tx0 = wd sheet 0 1 in let ty0 = wd sheet 0 2 in let tx1 = wd sheet 0 3 in let ty1 = wd sheet 0 4 in
     let dx = wd sheet i 1 in let dy = wd sheet i 2 in let nL = wd sheet i 3 - 1 in let pdx = wd sheet j 1 in let pdy = wd sheet j 2 in
     c < wd sheet 0 6 → r < wd sheet i 3
-    → (entryWord (u .said .state) (u .table) 2 c r ≡ numprecincts (trOf tx0 dx nL r) (trOf tx1 dx nL r) pdx)
-    × (entryWord (u .said .state) (u .table) 3 c r ≡ numprecincts (trOf ty0 dy nL r) (trOf ty1 dy nL r) pdy)))
+    → (entryWord (u .followed .state) (u .table) 2 c r ≡ numprecincts (trOf tx0 dx nL r) (trOf tx1 dx nL r) pdx)
+    × (entryWord (u .followed .state) (u .table) 3 c r ≡ numprecincts (trOf ty0 dy nL r) (trOf ty1 dy nL r) pdy)))
 unfolding count across boundOf
 demand-2-precincts sheet table marks bytes e c r h k =
-    let (p, same) = setup-zero sheet table marks e in
+    let (p, same) = start-zero sheet table marks e in
     rw same (own-wide sheet table marks bytes p c r h k, own-high sheet table marks bytes p c r h k)
 
 -- B.12.1: progression k of a sheet that setup accepts, opened by viewer v over the marks that setup leaves and stepped, lists the packets of the standard's loops with their
--- own counters, within 01's ranges; its opening answers 0, each step that finds one 1, the last 0
-pub demand-2-packets : (sheet table marks : List ℕ) → Bytes sheet → (let u : Setup = setupOf sheet table marks in u .said .number ≡ pos 0
-    → (v k : ℕ) → v < 8 → k < u .said .state .progressions
-    → callTurn mostSteps (u .said .state) (u .table) (u .marks) v k
+-- own counters, within 01's ranges; its opening answers 0, each step that finds one 1, the last 0; the viewer's total is less by as many
+pub demand-2-packets : (sheet table marks : List ℕ) → Bytes sheet → (let u : Start = startOf sheet table marks in u .number ≡ pos 0
+    → (v k : ℕ) → v < 8 → k < u .followed .state .progressions
+    → callTurn mostSteps (u .followed) (u .table) (u .marks) v k
     ≡ record {
       opening = pos 0;
       steps = replicate (length (standardOf sheet k)) (pos 1) ++ (pos 0 ∷ []);
       packets = standardOf sheet k;
       cursor = some (endedCursor v k);
-      marks = marked v (indexOf (u .said .state)) (u .marks) (standardOf sheet k);
+      followed = withTotal (u .followed) v (totalFor (u .followed) v - length (standardOf sheet k));
+      marks = marked v (indexOf (u .followed .state)) (u .marks) (standardOf sheet k);
     })
 demand-2-packets sheet table marks bytes e =
-    let (p, same) = setup-zero sheet table marks e in
+    let (p, same) = start-zero sheet table marks e in
     rw same (λ v k w. own-turn sheet table marks bytes p v (lt-ltb v 8 w) k)
 
 -- DEMAND 3, over every trace t of calls by any viewers after setup (its state st, its table, and the marks lent to it), in which of all calls that may write
 -- viewer v's bits (joining, steps) there are only those of v's run: other viewers join, open and step as they like, between any two
 pub record Demand3 (sheet lent : List ℕ) (st : State) (table : List ℕ) (v : ℕ) (t : Trace) : Type 0 where
-  -- the state is what the sheet's bytes say, with setup's reports
+  -- the state is what the sheet's bytes say, with setup's reports, and stays so
   pub state : st ≡ sheetOf sheet .st
+  pub state-stays : t .world .followed .state ≡ st
   -- every opening of v's answers 0 and a fresh cursor
   pub openings : (k : ℕ) → k < st .progressions → (r : Reply) → In (opens v k, r) (t .dealt) → r ≡ opened (record { number = pos 0; cursor = some (freshCursor v k) })
   -- each progression has a list of packets, and v's steps answer those lists in turn: 1 for each packet, and 0 at the end of each list
@@ -150,34 +155,44 @@ pub record Demand3 (sheet lent : List ℕ) (st : State) (table : List ℕ) (v : 
   -- and no other occurs
   pub only : (p : Position) → In p (joined lists) → (k : ℕ) × (k < st .progressions) × In p (standardOf sheet k)
   -- of the marks needed those of the packets answered alone have v's bit set
-  pub set-marks : (p : Position) → In p (joined lists) → freeAt v (t .marks) (indexOf st p) ≡ false
-  pub clear-marks : (i : ℕ) → i < needed st → ((p : Position) → In p (joined lists) → indexOf st p ≡ i → ⊥) → freeAt v (t .marks) i ≡ true
+  pub set-marks : (p : Position) → In p (joined lists) → freeAt v (t .world .marks) (indexOf st p) ≡ false
+  pub clear-marks : (i : ℕ) → i < needed st → ((p : Position) → In p (joined lists) → indexOf st p ≡ i → ⊥) → freeAt v (t .world .marks) i ≡ true
   -- and in the marks from there on v's bits are as lent
-  pub other-marks : (i : ℕ) → needed st ≤ i → freeAt v (t .marks) i ≡ freeAt v lent i
-  pub as-many-marks : length (t .marks) ≡ length lent
+  pub other-marks : (i : ℕ) → needed st ≤ i → freeAt v (t .world .marks) i ≡ freeAt v lent i
+  pub as-many-marks : length (t .world .marks) ≡ length lent
+  -- no packet is to come for v
+  pub none-to-come : totalFor (t .world .followed) v ≡ 0
   -- a further step of an ended cursor answers 0 and changes nothing
   pub ended-again : (k : ℕ) → k < st .progressions
-      → stepOf st table (t .marks) (endedCursor v k) ≡ record { said = record { number = pos 0; packet = none; cursor = endedCursor v k }; marks = t .marks }
+      → stepOf (t .world .followed) table (t .world .marks) (endedCursor v k)
+      ≡ record { said = record { number = pos 0; packet = none; cursor = endedCursor v k }; followed = t .world .followed; marks = t .world .marks }
   -- a progression opened again answers 0 and a fresh cursor, whose step answers 0, ends it and changes nothing
-  pub opened-again : (k : ℕ) → k < st .progressions → openOf st table (t .marks) v k ≡ record { number = pos 0; cursor = some (freshCursor v k) }
+  pub opened-again : (k : ℕ) → k < st .progressions → openOf (t .world .followed) table (t .world .marks) v k ≡ record { number = pos 0; cursor = some (freshCursor v k) }
   pub stepped-again : (k : ℕ) → k < st .progressions
-      → stepOf st table (t .marks) (freshCursor v k) ≡ record { said = record { number = pos 0; packet = none; cursor = endedCursor v k }; marks = t .marks }
+      → stepOf (t .world .followed) table (t .world .marks) (freshCursor v k)
+      ≡ record { said = record { number = pos 0; packet = none; cursor = endedCursor v k }; followed = t .world .followed; marks = t .world .marks }
   -- and so does a step of any cursor of v's that is not refused
-  pub nothing-more : (c : Cursor) → c .viewer ≡ v → sound st table (t .marks) c ≡ true
-      → stepOf st table (t .marks) c ≡ record { said = record { number = pos 0; packet = none; cursor = endedCursor v (c .progression) }; marks = t .marks }
+  pub nothing-more : (c : Cursor) → c .viewer ≡ v → sound (t .world .followed) table (t .world .marks) c ≡ true
+      → stepOf (t .world .followed) table (t .world .marks) c
+      ≡ record { said = record { number = pos 0; packet = none; cursor = endedCursor v (c .progression) }; followed = t .world .followed; marks = t .world .marks }
+
+-- what hosts find after setup
+abbrev pub worldOf : Start → World
+worldOf u = record { followed = u .followed; marks = u .marks }
 
 -- for every sheet that setup accepts, every viewer and every such trace
-pub demand-3 : (sheet table marks : List ℕ) → Bytes sheet → (let u : Setup = setupOf sheet table marks in u .said .number ≡ pos 0
-    → (v : ℕ) → v < 8 → (calls : List Call) → (let t = traced (u .said .state) (u .table) (u .marks) calls in
-    Running (u .said .state) (freshCursor v 0) (dealtWhere (writes v) (t .dealt)) → Demand3 sheet marks (u .said .state) (u .table) v t))
+pub demand-3 : (sheet table marks : List ℕ) → Bytes sheet → (let u : Start = startOf sheet table marks in u .number ≡ pos 0
+    → (v : ℕ) → v < 8 → (calls : List Call) → (let t = traced (u .table) (worldOf u) calls in
+    Running (u .followed .state) (freshCursor v 0) (dealtWhere (writes v) (t .dealt)) → Demand3 sheet marks (u .followed .state) (u .table) v t))
 demand-3 sheet table marks bytes e =
-    let (p, same) = setup-zero sheet table marks e in
+    let (p, same) = start-zero sheet table marks e in
     rw same
     (λ v w calls own.
     let viewer : isViewer v ≡ true = lt-ltb v 8 w in
     let together = own-lists sheet table marks bytes p v viewer in
     record {
       state = refl;
+      state-stays = own-state sheet table marks bytes p v viewer calls;
       openings = own-opened sheet table marks bytes p v viewer calls own;
       lists = listsOf (hostCalls _ _ _ v);
       every = own-long sheet table marks bytes p v viewer;
@@ -189,6 +204,7 @@ demand-3 sheet table marks bytes e =
       clear-marks = rw together (among-clear sheet table marks bytes p v viewer calls own);
       other-marks = among-beyond sheet table marks bytes p v viewer calls own;
       as-many-marks = among-size sheet table marks bytes p v viewer calls own;
+      none-to-come = among-none sheet table marks bytes p v viewer calls own;
       ended-again = own-ended sheet table marks bytes p v viewer calls own;
       opened-again = own-reopened sheet table marks bytes p v viewer calls own;
       stepped-again = own-fresh sheet table marks bytes p v viewer calls own;
@@ -196,12 +212,20 @@ demand-3 sheet table marks bytes e =
     })
 
 -- and there are such traces
-pub demand-3-met : (sheet table marks : List ℕ) → Bytes sheet → (let u : Setup = setupOf sheet table marks in u .said .number ≡ pos 0
-    → (v : ℕ) → v < 8 → (calls : List Call)
-    × Running (u .said .state) (freshCursor v 0) (dealtWhere (writes v) (traced (u .said .state) (u .table) (u .marks) calls .dealt)))
+pub demand-3-met : (sheet table marks : List ℕ) → Bytes sheet → (let u : Start = startOf sheet table marks in u .number ≡ pos 0
+    → (v : ℕ) → v < 8 → (calls : List Call) × Running (u .followed .state) (freshCursor v 0) (dealtWhere (writes v) (traced (u .table) (worldOf u) calls .dealt)))
 demand-3-met sheet table marks bytes e =
-    let (p, same) = setup-zero sheet table marks e in
+    let (p, same) = start-zero sheet table marks e in
     rw same (λ v w. own-exists sheet table marks bytes p v (lt-ltb v 8 w))
+
+-- HOW MANY ARE STILL TO COME (02, P8): over every trace, in which each call is given the state that the last one answered, at every point (which is the end of a trace of fewer calls)
+-- each viewer's total is the number of packets that some progression admits and that this viewer has not marked, counted in full
+pub totals-right : (sheet table marks : List ℕ) → Bytes sheet → (let u : Start = startOf sheet table marks in u .number ≡ pos 0
+    → (v : ℕ) → v < 8 → (calls : List Call) → (let t = traced (u .table) (worldOf u) calls in
+    totalFor (t .world .followed) v ≡ length (unmarked v (u .followed .state) (t .world .marks) (firsts (standardAll sheet)))))
+totals-right sheet table marks bytes e =
+    let (p, same) = start-zero sheet table marks e in
+    rw same (λ v w calls. own-total sheet table marks bytes p v (lt-ltb v 8 w) calls)
 
 -- THE RUN ALONE: the calls of a host for viewer v while nobody else calls, r
 pub record Alone (sheet lent : List ℕ) (st : State) (v : ℕ) (r : Hosted) : Type 0 where
@@ -219,10 +243,10 @@ pub record Alone (sheet lent : List ℕ) (st : State) (v : ℕ) (r : Hosted) : T
   pub other-marks : (i : ℕ) → needed st ≤ i → getD (r .marks) i 0 ≡ getD lent i 0
   pub as-many-marks : length (r .marks) ≡ length lent
 
-pub run-alone : (sheet table marks : List ℕ) → Bytes sheet → (let u : Setup = setupOf sheet table marks in u .said .number ≡ pos 0
-    → (v : ℕ) → v < 8 → Alone sheet marks (u .said .state) v (hostCalls (u .said .state) (u .table) (u .marks) v))
+pub run-alone : (sheet table marks : List ℕ) → Bytes sheet → (let u : Start = startOf sheet table marks in u .number ≡ pos 0
+    → (v : ℕ) → v < 8 → Alone sheet marks (u .followed .state) v (hostCalls (u .followed) (u .table) (u .marks) v))
 run-alone sheet table marks bytes e =
-    let (p, same) = setup-zero sheet table marks e in
+    let (p, same) = start-zero sheet table marks e in
     rw same
     (λ v w.
     let viewer : isViewer v ≡ true = lt-ltb v 8 w in
@@ -240,12 +264,12 @@ run-alone sheet table marks bytes e =
 
 -- THE WHOLE RUN IS THAT RUN of viewer 0, for every sheet that setup accepts and an output of 16 bytes for each mark needed: its number is the count of those packets, its
 -- records are theirs in that order, table and marks are those that the calls leave
-pub whole-run-same : (sheet table marks output : List ℕ) → Bytes sheet → (let u : Setup = setupOf sheet table marks in u .said .number ≡ pos 0
-    → 16 * needed (u .said .state) ≤ length output
-    → (let r : Hosted = hostCalls (u .said .state) (u .table) (u .marks) 0 in
+pub whole-run-same : (sheet table marks output : List ℕ) → Bytes sheet → (let u : Start = startOf sheet table marks in u .number ≡ pos 0
+    → 16 * needed (u .followed .state) ≤ length output
+    → (let r : Hosted = hostCalls (u .followed) (u .table) (u .marks) 0 in
     (wholeRunOf sheet table marks output
     ≡ record { number = pos (length (answered r)); table = u .table; marks = r .marks; output = over (recordsOf (answered r)) output })
     × (answered r ≡ firsts (standardAll sheet))))
 whole-run-same sheet table marks output bytes e =
-    let (p, same) = setup-zero sheet table marks e in
+    let (p, same) = start-zero sheet table marks e in
     rw same (λ room. (whole-run-calls sheet table marks bytes p output room, own-order sheet table marks bytes p 0 refl))

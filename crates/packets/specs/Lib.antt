@@ -8,6 +8,7 @@ pub mod Table
 pub mod Apart
 pub mod Same
 pub mod Sound
+pub mod Totals
 pub mod Calls
 pub mod Bounds
 pub mod Text
@@ -42,7 +43,9 @@ pub mod Rectangles
 pub mod Seen
 pub mod Turns
 pub mod Run
+pub mod Admitted
 pub mod Among
+pub mod Counting
 pub mod WholeRun
 pub mod Own
 pub mod Firsts

@@ -18,15 +18,17 @@ use Rattle.packets.specs.Tile.{Sheet, dxOf, dyOf, resOf, width, height, 
 use Rattle.types.specs.Orders.{orderOf, rangeOf, componentsGood}
 use Rattle.types.specs.declared.order.Order.{Order}
 use Rattle.types.specs.declared.order.Order.the-variants.{Lrcp as lrcp, Rlcp as rlcp, Rpcl as rpcl, Pcrl as pcrl, Cprl as cprl, NoPositions as other}
-use Rattle.packets.specs.Grid.{everywhere, between, stepX, stepY, smallest, stepsFit, stepsDivide, agreed, agreedFor, changeOf, gridAgreed}
+use Rattle.packets.specs.Grid.{everywhere, between, stepX, stepY, smallest, stepsFit, stepsDivide, agreed, changeOf, gridAgreed}
 use Rattle.packets.specs.Table.{entryWord, sheetAt}
 use Rattle.types.specs.Signed.{isZero}
-use Rattle.packets.specs.Sound.{tileGood, componentsSound, noRange, progressionGood, progressionsSound, entrySound, tableSound, reportsSound, sheetSound, stateSound, placeSound, positionsFor, cursorSound, sound}
+use Rattle.packets.specs.Sound.{tileGood, componentsSound, noRange, progressionGood, progressionsSound, entrySound, tableSound, reportsSound, sheetSound, stateSound, followedSound, placeSound, positionsFor, cursorSound, sound}
 use Rattle.packets.specs.Good.{Good}
 use Rattle.packets.specs.Inside.{is-in, in-is}
 use Rattle.types.specs.declared.order.Range.{Range}
 use Rattle.types.specs.declared.state.Progression.{Progression}
 use Rattle.types.specs.declared.state.State.{State}
+use Rattle.types.specs.declared.followed.Followed.{Followed}
+use Rattle.types.specs.Totals.{totalFor}
 use Rattle.types.specs.declared.cursor.Position.{Position}
 use Rattle.types.specs.declared.cursor.Place.{Place}
 use Rattle.types.specs.declared.cursor.Place.the-variants.{Fresh, At, Ended}
@@ -296,11 +298,16 @@ cursor-means st table c =
     (λ w. record { viewer = w .0; named = w .1 .0; admitted = w .1 .1 })
     (λ w. (w .viewer, (w .named, w .admitted)))
 
--- the test before a step: state and cursor
-pub all-sound-means : (st : State) (table marks : List ℕ) (c : Cursor)
-    → (sound st table marks c ≡ true) ↔ (Sound st table marks × CursorIn st table c)
+-- 02, P8: the test before opening and joining: the state, and the viewer's own total
+pub followed-means : (f : Followed) (table marks : List ℕ) (v : ℕ) → (followedSound f table marks v ≡ true) ↔ (Sound (f .state) table marks × (totalFor f v ≤ needed (f .state)))
+unfolding followedSound
+followed-means f table marks v = and-means (sound-means (f .state) table marks) (leb-means (totalFor f v) (needed (f .state)))
+
+-- the test before a step: these and the cursor
+pub all-sound-means : (f : Followed) (table marks : List ℕ) (c : Cursor)
+    → (sound f table marks c ≡ true) ↔ ((Sound (f .state) table marks × (totalFor f (c .viewer) ≤ needed (f .state))) × CursorIn (f .state) table c)
 unfolding sound
-all-sound-means st table marks c = and-means (sound-means st table marks) (cursor-means st table c)
+all-sound-means f table marks c = and-means (followed-means f table marks (c .viewer)) (cursor-means (f .state) table c)
 
 -- a sound state has what the theorems ask of a sheet
 pub sound-good : (st : State) (table marks : List ℕ) → stateSound st table marks ≡ true → Good (sheetAt st table)

@@ -31,6 +31,7 @@ use Rattle.packets.specs.Inside.{in-met, inside}
 use Rattle.packets.specs.Meaning.{sheet-means, fit-good}
 use Rattle.packets.specs.Steps.{step-listed}
 use Rattle.types.specs.declared.state.State.{State}
+use Rattle.types.specs.Totals.{following}
 use Rattle.types.specs.declared.cursor.Position.{Position}
 use Rattle.types.specs.declared.cursor.Cursor.{Cursor}
 
@@ -202,7 +203,7 @@ module _ (st : State) (table : List ℕ) (sound : sheetSound st table ≡ true) 
         rw (n, digits-div (columnOf (lineY s c r) (p .y)) (t .column), hit-cell (lineY s c r) (good .step-y c (there .component)) (p .y) (m .top) (t .hit-y)),
       )
 
-  -- and so is the point of every packet that a step answers
-  pub step-corner : (marks : List ℕ) (c : Cursor) → byPoints (orderOf (changeOf st (c .progression) .prg)) ≡ true → (p : Position)
-      → stepOf st table marks c .said .packet ≡ some p → Corner st table p
-  step-corner marks c b p e = rectangle-corner (c .progression) b p (step-listed st table marks c p e)
+  -- and so is the point of every packet that a step answers, whatever the totals
+  pub step-corner : (totals marks : List ℕ) (c : Cursor) → byPoints (orderOf (changeOf st (c .progression) .prg)) ≡ true → (p : Position)
+      → stepOf (following st totals) table marks c .said .packet ≡ some p → Corner st table p
+  step-corner totals marks c b p e = rectangle-corner (c .progression) b p (step-listed (following st totals) table marks c p e)

@@ -15,14 +15,18 @@ use Rattle.geometry.specs.declared.tile.Grid.{Grid}
 use Rattle.words.specs.Words.{wordsBytes, over}
 use Rattle.types.specs.State.{emptyState, freshCursor}
 use Rattle.types.specs.Viewers.{isViewer}
+use Rattle.types.specs.Totals.{startedWith, withTotal}
 use Rattle.laws.specs.Marks.{clearedTo}
+use Rattle.laws.specs.Below.{sumBelow}
 use Rattle.packets.specs.Tile.{precincts, rectangle, needed, indexOf}
 use Rattle.packets.specs.Table.{sheetAt}
-use Rattle.packets.specs.Sound.{sheetSound, stateSound, positionsFor, sound}
+use Rattle.packets.specs.Sound.{sheetSound, followedSound, positionsFor, sound}
+use Rattle.packets.specs.Totals.{total}
 use Rattle.types.specs.Answers.{OpenSaid, RectangleSaid}
-use Rattle.packets.specs.Calls.{refusal, Setup, setupVerdict, accepted, setupOf, Join, joinOf, openOf, rectangleOf, after, Step, stepBy, stepOf, Run, runVerdict, listed, ranOver, wholeRunOf}
+use Rattle.packets.specs.Calls.{refusal, Setup, setupVerdict, accepted, setupOf, Start, totalOf, startOf, Join, joinOf, openOf, rectangleOf, after, Step, stepBy, stepOf, Run, runVerdict, listed, ranOver, wholeRunOf}
 use Rattle.packets.specs.Bounds.{Bounds, writtenBy, boundsOf}
 use Rattle.types.specs.declared.state.State.{State}
+use Rattle.types.specs.declared.followed.Followed.{Followed}
 use Rattle.types.specs.declared.cursor.Position.{Position}
 use Rattle.types.specs.declared.cursor.Cursor.{Cursor}
 
@@ -53,6 +57,9 @@ module _ {A : Type 0} (number : A → ℤ) (kept : ℤ → A) where
 abbrev setupNumber : Setup → ℤ
 setupNumber u = u .said .number
 
+abbrev startNumber : Start → ℤ
+startNumber u = u .number
+
 abbrev joinNumber : Join → ℤ
 joinNumber o = o .number
 
@@ -81,6 +88,14 @@ module _ (sheet table marks : List ℕ) where
       let v = setupVerdict sheet table marks in
       or-refused setupNumber setupKept (λ z. refl) (eqb v 0) (accepted sheet table marks) (refusal v) (found setupNumber setupKept (accepted sheet table marks) 0 refl)
 
+  -- and so does setup for those who follow: with a refusal all totals are 0
+  abbrev startKept : ℤ → Start
+  startKept z = record { number = z; followed = startedWith emptyState 0; table = table; marks = marks }
+
+  pub start-keeps : Keeps startNumber startKept (startOf sheet table marks)
+  unfolding startOf total sumBelow
+  start-keeps n e = rw (setup-keeps n e)
+
   module _ (output : List ℕ) where
     abbrev runKept : ℤ → Run
     runKept z = record { number = z; table = table; marks = marks; output = output }
@@ -93,42 +108,42 @@ module _ (sheet table marks : List ℕ) where
         let r : Run = ranOver u output in
         or-refused runNumber runKept (λ z. refl) (eqb v 0) r (refusal v) (found runNumber runKept r (length (listed (u .said .state) (u .table))) refl)
 
-module _ (st : State) (table marks : List ℕ) where
+module _ (f : Followed) (table marks : List ℕ) where
   abbrev openKept : ℤ → OpenSaid
   openKept z = record { number = z; cursor = none }
 
-  pub open-keeps : (v k : ℕ) → Keeps openNumber openKept (openOf st table marks v k)
+  pub open-keeps : (v k : ℕ) → Keeps openNumber openKept (openOf f table marks v k)
   unfolding openOf
   open-keeps v k =
       let fresh : OpenSaid = record { number = pos 0; cursor = some (freshCursor v k) } in
-      let there : OpenSaid = cond (ltb k (st .progressions)) fresh (openKept (refusal 11)) in
-      or-refused openNumber openKept (λ z. refl) (stateSound st table marks) (cond (isViewer v) there (openKept (refusal 15))) (refusal 9)
+      let there : OpenSaid = cond (ltb k (f .state .progressions)) fresh (openKept (refusal 11)) in
+      or-refused openNumber openKept (λ z. refl) (followedSound f table marks v) (cond (isViewer v) there (openKept (refusal 15))) (refusal 9)
       (or-refused openNumber openKept (λ z. refl) (isViewer v) there (refusal 15)
-      (or-refused openNumber openKept (λ z. refl) (ltb k (st .progressions)) fresh (refusal 11) (found openNumber openKept fresh 0 refl)))
+      (or-refused openNumber openKept (λ z. refl) (ltb k (f .state .progressions)) fresh (refusal 11) (found openNumber openKept fresh 0 refl)))
 
   abbrev joinKept : ℤ → Join
-  joinKept z = record { number = z; marks = marks }
+  joinKept z = record { number = z; followed = f; marks = marks }
 
-  pub join-keeps : (v : ℕ) → Keeps joinNumber joinKept (joinOf st table marks v)
+  pub join-keeps : (v : ℕ) → Keeps joinNumber joinKept (joinOf f table marks v)
   unfolding joinOf
   join-keeps v =
-      let done : Join = record { number = pos 0; marks = clearedTo v (needed st) marks } in
-      or-refused joinNumber joinKept (λ z. refl) (stateSound st table marks) (cond (isViewer v) done (joinKept (refusal 15))) (refusal 9)
+      let done : Join = record { number = pos 0; followed = withTotal f v (totalOf (f .state) table); marks = clearedTo v (needed (f .state)) marks } in
+      or-refused joinNumber joinKept (λ z. refl) (followedSound f table marks v) (cond (isViewer v) done (joinKept (refusal 15))) (refusal 9)
       (or-refused joinNumber joinKept (λ z. refl) (isViewer v) done (refusal 15) (found joinNumber joinKept done 0 refl))
 
   module _ (c : Cursor) where
     abbrev stepKept : ℤ → Step
-    stepKept z = record { said = record { number = z; packet = none; cursor = c }; marks = marks }
+    stepKept z = record { said = record { number = z; packet = none; cursor = c }; followed = f; marks = marks }
 
-    step-found : (a : Answer Position) → Keeps stepNumber stepKept (stepBy st marks (c .viewer) (c .progression) a)
-    step-found (Packet p) = found stepNumber stepKept (stepBy st marks (c .viewer) (c .progression) (Packet p)) 1 refl
-    step-found Ended = found stepNumber stepKept (stepBy st marks (c .viewer) (c .progression) Ended) 0 refl
+    step-found : (a : Answer Position) → Keeps stepNumber stepKept (stepBy f marks (c .viewer) (c .progression) a)
+    step-found (Packet p) = found stepNumber stepKept (stepBy f marks (c .viewer) (c .progression) (Packet p)) 1 refl
+    step-found Ended = found stepNumber stepKept (stepBy f marks (c .viewer) (c .progression) Ended) 0 refl
 
-    pub step-keeps : Keeps stepNumber stepKept (stepOf st table marks c)
+    pub step-keeps : Keeps stepNumber stepKept (stepOf f table marks c)
     unfolding stepOf
     step-keeps =
-        let a : Answer Position = seek (c .viewer) (indexOf st) marks (after (c .place) (positionsFor st table (c .progression))) in
-        or-refused stepNumber stepKept (λ z. refl) (sound st table marks c) (stepBy st marks (c .viewer) (c .progression) a) (refusal 9) (step-found a)
+        let a : Answer Position = seek (c .viewer) (indexOf (f .state)) marks (after (c .place) (positionsFor (f .state) table (c .progression))) in
+        or-refused stepNumber stepKept (λ z. refl) (sound f table marks c) (stepBy f marks (c .viewer) (c .progression) a) (refusal 9) (step-found a)
 
 module _ (st : State) (table : List ℕ) where
   abbrev rectangleKept : ℤ → RectangleSaid

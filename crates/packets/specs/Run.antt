@@ -7,7 +7,7 @@ use mathlib.Core.Logic.{⊎-elim}
 use mathlib.Core.Option.{Option, some, none}
 use Prim.Native.Nat.{ℕ, zero, suc, _+_, _-_, _≤_, _<_, zero-le}
 use native.Mathlib.Omega.{arith}
-use lib.ListN.{length}
+use lib.ListN.{length, length-append}
 use lib.IntN.{pos}
 use Rattle.laws.specs.Axis.{span, up, up-grows}
 use Rattle.laws.specs.Axes.{axis-bounds}
@@ -22,14 +22,16 @@ use Rattle.laws.specs.Listing.{indexes, length-marked, listed-of, unlisted-with
 use Rattle.laws.specs.AllRuns.{Listing, joined, listing, runAll, run-all, NoneRepeats, Below, Complete, run-all-complete}
 use Rattle.types.specs.State.{endedCursor}
 use Rattle.types.specs.Viewers.{isViewer}
+use Rattle.types.specs.Totals.{following, totalFor, withTotal, total-with, totals-long, with-again, with-same}
 use Rattle.packets.specs.Tile.{needed, indexOf}
-use Rattle.packets.specs.Sound.{stateSound, positionsFor, sound}
+use Rattle.packets.specs.Sound.{stateSound, followedSound, positionsFor, sound}
 use Rattle.packets.specs.Meaning.{sound-means, all-sound-means}
 use Rattle.packets.specs.Same.{same}
 use Rattle.packets.specs.Calls
 use Rattle.packets.specs.Host.{Turn, Hosted, callRuns, answered}
-use Rattle.packets.specs.Steps.{asCursor, after-as, step-searches, sound-length}
+use Rattle.packets.specs.Steps.{asCursor, after-as, step-searches, followed-length, followed-state, followed-fewer}
 use Rattle.types.specs.declared.state.State.{State}
+use Rattle.types.specs.declared.followed.Followed.{Followed}
 use Rattle.types.specs.declared.cursor.Position.{Position}
 use Rattle.types.specs.declared.cursor.Cursor as cursor
 use Rattle.packets.specs.Turns.{onesThenZero, once, mark-needed, turnFor, turn-lists}
@@ -49,20 +51,24 @@ module _ (st : State) (table : List ℕ) (v : ℕ) (viewer : isViewer v ≡ true
   lists k j = map (positionsFor st table) (span k (k + j))
 
   -- what is right of the calls of j progressions from number k on
-  pub record Went (marks : List ℕ) (k j : ℕ) (r : Hosted) : Type 0 where
+  pub record Went (ts marks : List ℕ) (k j : ℕ) (r : Hosted) : Type 0 where
     pub lists-all : listingOf r ≡ runAll same v (indexOf st) (lists k j) marks
     pub answers : (t : Turn) → In t (r .turns) → Answered t
     pub cursors : map (λ (t : Turn). t .cursor) (r .turns) ≡ map (λ i. some (endedCursor v i)) (span k (k + j))
+    pub counted : r .followed ≡ withTotal (following st ts) v (totalFor (following st ts) v - length (answered r))
 
   -- one progression, and then the others
-  went-on : (marks : List ℕ) (k j : ℕ) (r : Hosted) → (let l : List Position = unlisted v (indexOf st) marks (positionsFor st table k) in
-      Went (marked v (indexOf st) marks l) (k + 1) j r → Went marks k (suc j) (record { turns = turnFor st table v k viewer marks l ∷ r .turns; marks = r .marks }))
+  went-on : (ts marks : List ℕ) (k j : ℕ) (r : Hosted) → v < length ts → (let l : List Position = unlisted v (indexOf st) marks (positionsFor st table k) in
+      let t : Turn = turnFor st table v k viewer (following st ts) marks l in
+      Went (t .followed .totals) (t .marks) (k + 1) j r → Went ts marks k (suc j) (record { turns = t ∷ r .turns; followed = r .followed; marks = r .marks }))
   unfolding runAll gather
-  went-on marks k j r w =
+  went-on ts marks k j r long w =
       let ps : List Position = positionsFor st table k in
       let l : List Position = unlisted v (indexOf st) marks ps in
       let next : k + suc j ≡ k + 1 + j = omega arith in
       let head : span k (k + suc j) ≡ k ∷ span (k + 1) (k + 1 + j) = rw (next, span-head k (k + 1 + j) (omega arith)) in
+      let f : Followed = following st ts in
+      let n : ℕ = totalFor f v - length l in
       record {
         lists-all =
             ap (λ (s : Listing Position). record { packets = l ++ s .packets; marks = s .marks }) (w .lists-all)
@@ -72,21 +78,32 @@ module _ (st : State) (table : List ℕ) (v : ℕ) (viewer : isViewer v ≡ true
             (run-lists same v (indexOf st) ps (once st table k) (length ps + 1) marks (omega arith)));
         answers = λ t i. ⊎-elim (λ e. rw e (record { opening = refl; steps = refl })) (w .answers t) (in-cons i);
         cursors = ap (λ (cs : List (Option cursor.Cursor)). some (endedCursor v k) ∷ cs) (w .cursors) ∙ sym (ap (map (λ i. some (endedCursor v i))) head);
+        counted =
+            w .counted
+            ∙ with-again f v n (totalFor (withTotal f v n) v - length (answered r))
+            ∙ ap (withTotal f v)
+            (ap (λ (m : ℕ). m - length (answered r)) (total-with f v n viewer long)
+            ∙ (let e = length-append l (answered r) in omega arith));
       }
 
   -- the calls of all progressions in turn
-  runs-went : (n : ℕ) → needed st < n → (j k : ℕ) (marks : List ℕ) → k + j ≤ st .progressions → stateSound st table marks ≡ true → Went marks k j (callRuns n j st table marks v k)
+  runs-went : (n : ℕ) → needed st < n → (j k : ℕ) (ts marks : List ℕ) → k + j ≤ st .progressions → v < length ts → followedSound (following st ts) table marks v ≡ true
+      → Went ts marks k j (callRuns n j (following st ts) table marks v k)
   unfolding callRuns runAll gather
-  runs-went n enough zero k marks l h =
+  runs-went n enough zero k ts marks l long h =
       let none : span k (k + 0) ≡ [] = span-end k (k + 0) (omega arith) in
-      record { lists-all = rw none; answers = λ t i. absurd (not-in-nil i); cursors = rw none }
-  runs-went n enough (suc j) k marks l h =
+      let f : Followed = following st ts in
+      record { lists-all = rw none; answers = λ t i. absurd (not-in-nil i); cursors = rw none; counted = sym (with-same f v) ∙ ap (withTotal f v) (omega arith) }
+  runs-went n enough (suc j) k ts marks l long h =
+      let f : Followed = following st ts in
       let listed : List Position = unlisted v (indexOf st) marks (positionsFor st table k) in
-      let left : List ℕ = marked v (indexOf st) marks listed in
-      let on : stateSound st table left ≡ true = sound-length st table left marks (length-marked v (indexOf st) marks listed) ∙ h in
-      subst (λ (t : Turn). let r = callRuns n j st table (t .marks) v (k + 1) in Went marks k (suc j) (record { turns = t ∷ r .turns; marks = r .marks }))
-      (sym (turn-lists st table v k viewer n enough marks h (omega arith)))
-      (went-on marks k j (callRuns n j st table left v (k + 1)) (runs-went n enough j (k + 1) left (omega arith) on))
+      let t : Turn = turnFor st table v k viewer f marks listed in
+      let on : followedSound (t .followed) table (t .marks) v ≡ true
+      = followed-length (t .followed) table (t .marks) marks v (length-marked v (indexOf st) marks listed) ∙ followed-fewer f table marks v (totalFor f v - length listed) (omega arith) h in
+      subst (λ (t : Turn). let r = callRuns n j (t .followed) table (t .marks) v (k + 1) in Went ts marks k (suc j) (record { turns = t ∷ r .turns; followed = r .followed; marks = r .marks }))
+      (sym (turn-lists st table v k viewer n enough ts marks long h (omega arith)))
+      (went-on ts marks k j (callRuns n j (t .followed) table (t .marks) v (k + 1)) long
+      (runs-went n enough j (k + 1) (t .followed .totals) (t .marks) (omega arith) (rw (totals-long f v (totalFor f v - length listed)) long) on))
 
   -- the plain loops of every progression
   abbrev pub all : List (List Position)
@@ -95,12 +112,15 @@ module _ (st : State) (table : List ℕ) (v : ℕ) (viewer : isViewer v ≡ true
   all-once : NoneRepeats same v (indexOf st) all
   all-once ps i = let r = in-of-map (positionsFor st table) (span 0 (st .progressions)) i in subst (λ qs. NoRepeats qs) (r .2) (once st table (r .0))
 
-  module _ (marks : List ℕ) (h : stateSound st table marks ≡ true) (n : ℕ) (enough : needed st < n) where
+  module _ (ts marks : List ℕ) (long : v < length ts) (fine : followedSound (following st ts) table marks v ≡ true) (n : ℕ) (enough : needed st < n) where
     abbrev calls : Hosted
-    calls = callRuns n (st .progressions) st table marks v 0
+    calls = callRuns n (st .progressions) (following st ts) table marks v 0
 
-    pub calls-went : Went marks 0 (st .progressions) calls
-    calls-went = runs-went n enough (st .progressions) 0 marks (omega arith) h
+    h : stateSound st table marks ≡ true
+    h = followed-state (following st ts) table marks v fine
+
+    pub calls-went : Went ts marks 0 (st .progressions) calls
+    calls-went = runs-went n enough (st .progressions) 0 ts marks (omega arith) long fine
 
     all-below : Below (indexOf st) (needed st) all
     all-below ps i p j =
@@ -147,21 +167,25 @@ module _ (st : State) (table : List ℕ) (v : ℕ) (viewer : isViewer v ≡ true
           (in-map (indexOf st) (gathered (λ ps. ps) (in-map (positionsFor st table) (in-span k (st .progressions) 0 zero-le l)) i)))))
           ∙ marked-taken v _
 
-      -- so a step of this viewer from any sound cursor finds nothing more, whatever other bits are
-      pub none-left : (m : List ℕ) → ((i : ℕ) → freeAt v m i ≡ freeAt v (calls .marks) i) → (c : cursor.Cursor) → c .viewer ≡ v → sound st table m c ≡ true
-          → Calls.stepOf st table m c ≡ record { said = record { number = pos 0; packet = none; cursor = endedCursor v (c .progression) }; marks = m }
-      none-left m bits c own s =
-          step-searches st table m c s
-          ∙ ap (λ w. Calls.stepBy st m w (c .progression) (seek w (indexOf st) m (Calls.after (c .place) qs))) own
-          ∙ ap (Calls.stepBy st m v (c .progression)) (found (seek v (indexOf st) m (Calls.after (c .place) qs)) refl)
+      -- so a step of this viewer from any sound cursor finds nothing more, whatever the totals and other bits are
+      pub none-left : (us m : List ℕ) → ((i : ℕ) → freeAt v m i ≡ freeAt v (calls .marks) i) → (c : cursor.Cursor) → c .viewer ≡ v → sound (following st us) table m c ≡ true
+          → Calls.stepOf (following st us) table m c
+          ≡ record { said = record { number = pos 0; packet = none; cursor = endedCursor v (c .progression) }; followed = following st us; marks = m }
+      none-left us m bits c own s =
+          step-searches f table m c s
+          ∙ ap (λ w. Calls.stepBy f m w (c .progression) (seek w (indexOf st) m (Calls.after (c .place) qs))) own
+          ∙ ap (Calls.stepBy f m v (c .progression)) (found (seek v (indexOf st) m (Calls.after (c .place) qs)) refl)
         where
+          f : Followed
+          f = following st us
+
           qs : List Position
           qs = positionsFor st table (c .progression)
 
           found : (a : Answer Position) → seek v (indexOf st) m (Calls.after (c .place) qs) ≡ a → a ≡ Ended
           found (Packet p) e =
               let i = found-in same v (indexOf st) qs m (asCursor (c .place)) p (ap (seek v (indexOf st) m) (sym (after-as (c .place) qs)) ∙ e) in
-              let taken = all-marked (c .progression) (all-sound-means st table m c .0 s .1 .named) p i in
+              let taken = all-marked (c .progression) (all-sound-means f table m c .0 s .1 .named) p i in
               let is-free = seek-is-free v (indexOf st) m (Calls.after (c .place) qs) p e in
               absurd (true≢false (sym is-free ∙ bits (indexOf st p) ∙ taken))
           found Ended e = refl

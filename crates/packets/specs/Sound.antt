@@ -7,6 +7,7 @@ use lib.Dec.{ltb, leb, eqb}
 use Rattle.laws.specs.Below.{allBelow}
 use Rattle.types.specs.Signed.{isZero}
 use Rattle.types.specs.Viewers.{isViewer}
+use Rattle.types.specs.Totals.{totalFor}
 use Rattle.types.specs.Ranges.{tileRange, componentRange, exponentRange, isVolume, progressionRange}
 use Rattle.packets.specs.Tile.{Sheet, dxOf, dyOf, resOf, width, height, maxPrec, maxRes, dxMin, dyMin, needed, tableBytes}
 use Rattle.packets.specs.Grid.{everywhere, changeOf, gridAgreed}
@@ -15,6 +16,7 @@ use Rattle.packets.specs.Table.{entryWord, sheetAt}
 use Rattle.packets.specs.Same.{samePosition}
 use Rattle.types.specs.declared.state.Progression.{Progression}
 use Rattle.types.specs.declared.state.State.{State}
+use Rattle.types.specs.declared.followed.Followed.{Followed}
 use Rattle.types.specs.declared.cursor.Position.{Position}
 use Rattle.types.specs.declared.cursor.Place.{Place}
 use Rattle.types.specs.declared.cursor.Place.the-variants.{Fresh, At, Ended}
@@ -72,6 +74,10 @@ sheetSound st table =
 unfoldable pub stateSound : State → List ℕ → List ℕ → Bool
 stateSound st table marks = sheetSound st table && leb (needed st) (length marks)
 
+-- 02, P8: and of the totals only the viewer's own is asked, to be at most the marks needed
+unfoldable pub followedSound : Followed → List ℕ → List ℕ → ℕ → Bool
+followedSound f table marks v = stateSound (f .state) table marks && leb (totalFor f v) (needed (f .state))
+
 -- a position is one of a list
 unfoldable pub isIn : Position → List Position → Bool
 isIn p [] = false
@@ -92,5 +98,5 @@ unfoldable pub cursorSound : State → List ℕ → Cursor → Bool
 cursorSound st table c =
     isViewer (c .viewer) && (ltb (c .progression) (st .progressions) && placeSound (c .place) (positionsFor st table (c .progression)))
 
-unfoldable pub sound : State → List ℕ → List ℕ → Cursor → Bool
-sound st table marks c = stateSound st table marks && cursorSound st table c
+unfoldable pub sound : Followed → List ℕ → List ℕ → Cursor → Bool
+sound f table marks c = followedSound f table marks (c .viewer) && cursorSound (f .state) table c

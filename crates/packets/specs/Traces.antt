@@ -1,5 +1,5 @@
--- What any number of hosts do after setup (02, P4): calls one after the other, each over the state and the table that setup gave and the marks as they are then; and
--- demand 3's run of one viewer among them.
+-- What any number of hosts do after setup (02, P4 and P8): calls one after the other, each over the table that setup gave, the state that the last one answered and the marks as
+-- they are then; and demand 3's run of one viewer among them.
 use mathlib.Core.Path.{_≡_}
 use mathlib.Core.Bool.{Bool, false}
 use mathlib.Core.List.{List, [], _∷_, _++_}
@@ -12,6 +12,7 @@ use Rattle.types.specs.Answers.{OpenSaid, StepSaid}
 use Rattle.types.specs.State.{freshCursor, endedCursor}
 use Rattle.packets.specs.Calls.{Join, joinOf, openOf, Step, stepOf}
 use Rattle.types.specs.declared.state.State.{State}
+use Rattle.types.specs.declared.followed.Followed.{Followed}
 use Rattle.types.specs.declared.cursor.Position.{Position}
 use Rattle.types.specs.declared.cursor.Place.{Place}
 use Rattle.types.specs.declared.cursor.Place.the-variants as place
@@ -34,27 +35,36 @@ pub data Reply : Type 0 where
   opened : OpenSaid → Reply
   stepped : StepSaid → Reply
 
--- one call over the marks as they are: what it is answered, and the marks that it leaves
+-- what calls go by and change: the state with its totals, and the marks
+pub record World : Type 0 where
+  pub followed : Followed
+  pub marks : List ℕ
+
+-- one call: what it is answered, and the world after it
 pub record Made : Type 0 where
   pub reply : Reply
-  pub marks : List ℕ
+  pub world : World
 
-abbrev pub made : State → List ℕ → List ℕ → Call → Made
-made st table marks (joins v) = let r : Join = joinOf st table marks v in record { reply = joined (r .number); marks = r .marks }
-made st table marks (opens v k) = record { reply = opened (openOf st table marks v k); marks = marks }
-made st table marks (steps c) = let r : Step = stepOf st table marks c in record { reply = stepped (r .said); marks = r .marks }
+abbrev pub made : List ℕ → World → Call → Made
+made table w (joins v) =
+    let r : Join = joinOf (w .followed) table (w .marks) v in
+    record { reply = joined (r .number); world = record { followed = r .followed; marks = r .marks } }
+made table w (opens v k) = record { reply = opened (openOf (w .followed) table (w .marks) v k); world = w }
+made table w (steps c) =
+    let r : Step = stepOf (w .followed) table (w .marks) c in
+    record { reply = stepped (r .said); world = record { followed = r .followed; marks = r .marks } }
 
--- a trace: every call with its reply, in order, and the marks that are left
+-- a trace: every call with its reply, in order, and the world that is left
 pub record Trace : Type 0 where
   pub dealt : List (Call × Reply)
-  pub marks : List ℕ
+  pub world : World
 
-unfoldable pub traced : State → List ℕ → List ℕ → List Call → Trace
-traced st table marks [] = record { dealt = []; marks = marks }
-traced st table marks (c ∷ cs) =
-    let r : Made = made st table marks c in
-    let rest : Trace = traced st table (r .marks) cs in
-    record { dealt = (c, r .reply) ∷ rest .dealt; marks = rest .marks }
+unfoldable pub traced : List ℕ → World → List Call → Trace
+traced table w [] = record { dealt = []; world = w }
+traced table w (c ∷ cs) =
+    let r : Made = made table w c in
+    let rest : Trace = traced table (r .world) cs in
+    record { dealt = (c, r .reply) ∷ rest .dealt; world = rest .world }
 
 -- some of its calls, with their replies
 abbrev pub dealtWhere : (Call → Bool) → List (Call × Reply) → List (Call × Reply)

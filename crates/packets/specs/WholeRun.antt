@@ -9,9 +9,9 @@ use lib.ListN.{length, getD, drop, replicate, length-replicate, getD-replicate, 
 use lib.Seq.{getD-append-add, getD-drop}
 use lib.Dec.{leb, eqb}
 use lib.IntN.{pos}
-use borrow.Author.Tests.{leb-true, le-leb, eqb-true, eqb-false, eq-eqb}
+use borrow.Author.Tests.{ltb-true, leb-true, le-leb, eqb-true, eqb-false, eq-eqb}
 use Rattle.laws.specs.Marks.{zero-free}
-use Rattle.laws.specs.Cases.{split, cond-zero}
+use Rattle.laws.specs.Cases.{split, and-both, cond-zero}
 use Rattle.laws.specs.AllRuns.{Listing}
 use Rattle.words.specs.Words.{over}
 use Rattle.words.specs.Laws.{Bytes, over-length}
@@ -19,15 +19,19 @@ use Rattle.packets.specs.Sheet.{readVerdict, fieldsOf}
 use Rattle.packets.specs.Tile.{reported, needed, entriesBefore, tableBytes}
 use Rattle.packets.specs.Grid.{gridAgreed}
 use Rattle.packets.specs.Table.{sheetIn, sheetAt}
-use Rattle.packets.specs.Sound.{stateSound}
-use Rattle.packets.specs.Calls.{refusal, Setup, setupVerdict, accepted, setupOf, recordsOf, runVerdict, ranOver, wholeRunOf}
+use Rattle.packets.specs.Sound.{stateSound, followedSound}
+use Rattle.packets.specs.Calls.{refusal, Setup, setupVerdict, accepted, setupOf, totalOf, startOf, recordsOf, runVerdict, ranOver, wholeRunOf}
 use Rattle.packets.specs.Host.{mostSteps, hostCalls, answered}
 use Rattle.packets.specs.Reading.{read-good}
 use Rattle.packets.specs.SetupSound.{setup-sound}
 use Rattle.packets.specs.Meaning.{sound-good}
 use Rattle.packets.specs.Good.{Good}
 use Rattle.packets.specs.Run.{run-listed}
+use Rattle.packets.specs.Admitted.{total-few}
+use Rattle.types.specs.Viewers.{isViewer}
+use Rattle.types.specs.Totals.{startedWith, totalFor}
 use Rattle.types.specs.declared.state.State.{State}
+use Rattle.types.specs.declared.followed.Followed.{Followed}
 use Rattle.types.specs.declared.cursor.Position.{Position}
 
 -- what an accepted sheet has passed
@@ -70,6 +74,16 @@ module _ (sheet table marks : List ℕ) where
   -- so one that answers 0 has passed all tests and is accepted
   pub setup-zero : setupOf sheet table marks .said .number ≡ pos 0 → Passed sheet table marks × (setupOf sheet table marks ≡ accepted sheet table marks)
   setup-zero e = let v = setup-verdict e in (setup-passed sheet table marks v, setup-accepts v)
+
+  -- the same of setup for those who follow
+  pub start-zero : startOf sheet table marks .number ≡ pos 0
+      → Passed sheet table marks × (let u : Setup = accepted sheet table marks in
+      startOf sheet table marks
+      ≡ record { number = pos 0; followed = startedWith (u .said .state) (totalOf (u .said .state) (u .table)); table = u .table; marks = u .marks })
+  unfolding startOf
+  start-zero e =
+      let (p, same) = setup-zero e in
+      (p, ap (λ (u : Setup). record { number = u .said .number; followed = startedWith (u .said .state) (totalOf (u .said .state) (u .table)); table = u .table; marks = u .marks }) same)
 
   -- a whole run with a refusal leaves everything lent as it was
   pub run-refuses : (output : List ℕ) → (runVerdict sheet table marks output ≡ 0 → ⊥)
@@ -117,9 +131,26 @@ module _ (sheet table marks : List ℕ) (bytes : Bytes sheet) (p : Passed sheet 
       let e : i ≡ length zeros + (i - needed st) = rw zeros-long (omega arith) in
       rw e (getD-append-add zeros (drop (length zeros) marks) (i - needed st) 0 ∙ getD-drop (length zeros) marks (i - needed st) 0)
 
+  -- everybody at the start
+  abbrev pub start : Followed
+  start = startedWith st (totalOf st (u .table))
+
+  pub start-total : (v : ℕ) → isViewer v ≡ true → totalFor start v ≡ totalOf st (u .table)
+  unfolding totalFor
+  start-total v e = rw e (getD-replicate 8 v (totalOf st (u .table)) 0 (ltb-true v 8 e))
+
+  pub start-place : (v : ℕ) → isViewer v ≡ true → v < length (start .totals)
+  start-place v e = rw (length-replicate 8 (totalOf st (u .table))) (ltb-true v 8 e)
+
+  -- which is sound for each of the eight
+  pub start-sound : (v : ℕ) → isViewer v ≡ true → followedSound start (u .table) (u .marks) v ≡ true
+  unfolding followedSound
+  start-sound v e =
+      and-both accepted-sound (le-leb (totalFor start v) (needed st) (rw (start-total v e) (total-few st (u .table) (u .marks) accepted-sound)))
+
   -- THE WHOLE RUN IS THE RUN THAT A HOST'S CALLS MAKE for viewer 0, where the output has room
   pub whole-run-calls : (output : List ℕ) → 16 * needed st ≤ length output
-      → (let r = hostCalls st (u .table) (u .marks) 0 in
+      → (let r = hostCalls start (u .table) (u .marks) 0 in
       wholeRunOf sheet table marks output
       ≡ record { number = pos (length (answered r)); table = u .table; marks = r .marks; output = over (recordsOf (answered r)) output })
   unfolding wholeRunOf runVerdict ranOver hostCalls
@@ -127,4 +158,4 @@ module _ (sheet table marks : List ℕ) (bytes : Bytes sheet) (p : Passed sheet 
       let few = p .few in
       rw (passed-setup sheet table marks p, le-leb _ _ room)
       (ap (λ (r : Listing Position). record { number = pos (length (r .packets)); table = u .table; marks = r .marks; output = over (recordsOf (r .packets)) output })
-      (sym (run-listed st (u .table) 0 refl (u .marks) accepted-sound mostSteps (omega arith) (λ i h. zero-free 0 (u .marks) i (accepted-clear i h)))))
+      (sym (run-listed st (u .table) 0 refl (start .totals) (u .marks) (start-place 0 refl) (start-sound 0 refl) mostSteps (omega arith) (λ i h. zero-free 0 (u .marks) i (accepted-clear i h)))))

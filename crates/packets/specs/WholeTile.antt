@@ -17,6 +17,7 @@ use Rattle.packets.specs.Tile.{Sheet, resOf, precincts}
 use Rattle.types.specs.Orders.{wholeTile, componentsGood, byPoints}
 use Rattle.types.specs.declared.order.Order.{Order}
 use Rattle.types.specs.declared.order.Order.the-variants.{NoPositions as other}
+use Rattle.types.specs.declared.order.Range.{Range}
 use Rattle.packets.specs.Positions.{hasPositions, positionsIn}
 use Rattle.packets.specs.Good.{Good}
 use Rattle.packets.specs.Met.{met-some}
@@ -34,6 +35,10 @@ pub record Packet : Type 0 where
 -- the packet of a position
 abbrev pub packetOf : Position → Packet
 packetOf p = record { layno = p .layno; resno = p .resno; compno = p .compno; precno = p .precno }
+
+-- the position of a packet at a point
+abbrev pub positionOf : Packet → ℕ → ℕ → Position
+positionOf a x y = record { layno = a .layno; resno = a .resno; compno = a .compno; precno = a .precno; x = x; y = y }
 
 -- the packets of a resolution, of a component, of a layer
 abbrev pub packetsOfResolution : Sheet → ℕ → ℕ → ℕ → List Packet
@@ -56,27 +61,32 @@ pub record Holds (s : Sheet) (a : Packet) : Type 0 where
   pub resolution : a .resno < resOf (s .st) (a .compno)
   pub precinct : a .precno < precincts s (a .compno) (a .resno)
 
-below : {i n : ℕ} → In i (span 0 n) → i < n
+pub below : {i n : ℕ} → In i (span 0 n) → i < n
 below {i} {n} h = axis-bounds up up-grows (n - 0) 0 n i (omega arith) h .1
 
-to : {i n : ℕ} → i < n → In i (span 0 n)
+pub to : {i n : ℕ} → i < n → In i (span 0 n)
 to {i} {n} h = in-span i n 0 zero-le h
 
-span-once : (n : ℕ) → NoRepeats (span 0 n)
+pub span-once : (n : ℕ) → NoRepeats (span 0 n)
 span-once n = axis-no-repeats up up-grows 0 n
 
 module _ (s : Sheet) where
   -- the numbers of a packet are those of its resolution, component and layer
-  record Of (l c r : ℕ) (a : Packet) : Type 0 where
-    layer : a .layno ≡ l
-    component : a .compno ≡ c
-    resolution : a .resno ≡ r
-    precinct : a .precno < precincts s c r
+  pub record Of (l c r : ℕ) (a : Packet) : Type 0 where
+    pub layer : a .layno ≡ l
+    pub component : a .compno ≡ c
+    pub resolution : a .resno ≡ r
+    pub precinct : a .precno < precincts s c r
 
-  of : (l c r : ℕ) (a : Packet) → In a (packetsOfResolution s l c r) → Of l c r a
+  pub of : (l c r : ℕ) (a : Packet) → In a (packetsOfResolution s l c r) → Of l c r a
   of l c r a h =
       let m = in-of-map (λ k. record { layno = l; resno = r; compno = c; precno = k }) (span 0 (precincts s c r)) h in
       subst (Of l c r) (m .2) (record { layer = refl; component = refl; resolution = refl; precinct = below (m .1) })
+
+  -- each is listed once
+  pub resolution-once : (l c r : ℕ) → NoRepeats (packetsOfResolution s l c r)
+  resolution-once l c r =
+      map-no-repeats (λ k. record { layno = l; resno = r; compno = c; precno = k }) (λ a b i j e. ap (λ (p : Packet). p .precno) e) (span-once (precincts s c r))
 
   keyed-resolution : (l c : ℕ) → Keyed (λ a. a .resno) (packetsOfResolution s l c)
   keyed-resolution l c r a h = of l c r a h .resolution
@@ -112,8 +122,17 @@ module _ (s : Sheet) where
   packets-once =
       gather-no-repeats (λ a. a .layno) (packetsOfLayer s) keyed-layer (span-once (s .st .layers))
       (λ l. gather-no-repeats (λ a. a .compno) (packetsOfComponent s l) (keyed-component l) (span-once (s .st .components))
-      (λ c. gather-no-repeats (λ a. a .resno) (packetsOfResolution s l c) (keyed-resolution l c) (span-once (resOf (s .st) c))
-      (λ r. map-no-repeats (λ k. record { layno = l; resno = r; compno = c; precno = k }) (λ a b i j e. ap (λ (p : Packet). p .precno) e) (span-once (precincts s c r)))))
+      (λ c. gather-no-repeats (λ a. a .resno) (packetsOfResolution s l c) (keyed-resolution l c) (span-once (resOf (s .st) c)) (resolution-once l c)))
+
+  -- a packet of the tile that is in the ranges of a progression with positions is one of its packets
+  pub has-packet : Good s → (g : Range) (o : Order) → hasPositions s g o ≡ true → (a : Packet) → a .compno < s .st .components → a .precno < precincts s (a .compno) (a .resno)
+      → ((x y : ℕ) → InRange g (positionOf a x y)) → In a (map packetOf (positionsIn s g o))
+  has-packet good g o has a c k range =
+      split (byPoints o)
+      (λ b.
+      let t = met-some s good (a .layno) (a .resno) (a .compno) (a .precno) c k in
+      in-map packetOf (listed-point s g o b has (positionOf a (t .x) (t .y)) (range (t .x) (t .y)) (t .meets)))
+      (λ b. in-map packetOf (listed-still s g o b has (positionOf a 0 0) (range 0 0) k refl refl))
 
   module _ (good : Good s) (some : 1 ≤ s .st .components) where
     whole-good : componentsGood (s .st) (wholeTile (s .st)) ≡ true
@@ -140,15 +159,7 @@ module _ (s : Sheet) where
           (record { layer = in-range s (wholeTile (s .st)) o (m .0) (m .1) .layer; component = i .component; resolution = i .resolution; precinct = i .precinct })
 
       holds-listed : (a : Packet) → Holds s a → In a (map packetOf (positionsIn s (wholeTile (s .st)) o))
-      holds-listed a h =
-          split (byPoints o)
-          (λ b.
-          let t = met-some s good (a .layno) (a .resno) (a .compno) (a .precno) (h .component) (h .precinct) in
-          let p : Position = record { layno = a .layno; resno = a .resno; compno = a .compno; precno = a .precno; x = t .x; y = t .y } in
-          in-map packetOf (listed-point s (wholeTile (s .st)) o b has p (whole-range p h) (t .meets)))
-          (λ b.
-          let p : Position = record { layno = a .layno; resno = a .resno; compno = a .compno; precno = a .precno; x = 0; y = 0 } in
-          in-map packetOf (listed-still s (wholeTile (s .st)) o b has p (whole-range p h) (h .precinct) refl refl))
+      holds-listed a h = has-packet good (wholeTile (s .st)) o has a (h .component) (h .precinct) (λ x y. whole-range (positionOf a x y) h)
 
       listed-once : NoRepeats (map packetOf (positionsIn s (wholeTile (s .st)) o))
       listed-once =

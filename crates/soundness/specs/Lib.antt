@@ -4,3 +4,4 @@ pub mod Points
 pub mod Reached
 pub mod Reports
 pub mod Needs
+pub mod Totals

@@ -3,16 +3,18 @@ mod fields;
 mod place;
 mod reports;
 pub mod sides;
+pub mod totals;
 
 use survey::Source;
 use types::cursor::Cursor;
+use types::followed::Followed;
 use types::state::State;
 use types::table::Entry;
 use types::table::entries;
 ghost use mathlib.Core.Path.{_≡_};
 ghost use Rattle.packets.specs.Sound as spec;
 ghost use mathlib.Core.Bool.{true};
-ghost use Rattle.packets.specs.Sound.{sheetSound, stateSound};
+ghost use Rattle.packets.specs.Sound.{sheetSound, followedSound};
 ghost use Rattle.packets.specs.Tile.{needed};
 ghost use Rattle.soundness.specs.Needs.{needsOf};
 
@@ -60,32 +62,37 @@ pub fn sheet_sound(st: State, table: &[u8]) -> bool
     judged(st, table).sound
 }
 
-// And the marks suffice.
-pub fn state_sound(st: State, table: &[u8], marks: &[u8]) -> bool
-    ensures { λ r. ⌜ r ≡ stateSound st (now (table .entry)) (now (marks .entry)) ⌝ }
+// And the marks suffice; and of the totals a viewer's own is no larger than what is needed (02, P8).
+pub fn followed_sound(f: Followed, table: &[u8], marks: &[u8], viewer: u32) -> bool
+    ensures { λ r. ⌜ r ≡ followedSound f (now (table .entry)) (now (marks .entry)) viewer ⌝ }
 {
+    let st = f.state;
     let known = judged(st, table);
-    known.sound & ((known.needed as usize) <= marks.len())
+    known.sound & (((known.needed as usize) <= marks.len()) & (f.total(viewer) <= known.needed))
 }
 
 // And how many of them are needed.
-pub fn marks_needed(st: State, table: &[u8], marks: &[u8]) -> Needs
-    ensures { λ r. ⌜ r ≡ needsOf st (now (table .entry)) (now (marks .entry)) ⌝ }
+pub fn marks_needed(f: Followed, table: &[u8], marks: &[u8], viewer: u32) -> Needs
+    ensures { λ r. ⌜ r ≡ needsOf f (now (table .entry)) (now (marks .entry)) viewer ⌝ }
 {
+    let st = f.state;
     let known = judged(st, table);
     if known.sound {
         if (known.needed as usize) <= marks.len() {
-            return Needs::Marks(known.needed);
+            if f.total(viewer) <= known.needed {
+                return Needs::Marks(known.needed);
+            }
         }
     }
     Needs::Unsound
 }
 
-// A sound state, and a cursor of a viewer in one of its progressions, at a place which that admits.
-pub fn sound(st: State, table: &[u8], marks: &[u8], cursor: Cursor) -> bool
-    ensures { λ r. ⌜ r ≡ spec.sound st (now (table .entry)) (now (marks .entry)) cursor ⌝ }
+// A sound state with its totals, and a cursor of a viewer in one of its progressions, at a place which that admits.
+pub fn sound(f: Followed, table: &[u8], marks: &[u8], cursor: Cursor) -> bool
+    ensures { λ r. ⌜ r ≡ spec.sound f (now (table .entry)) (now (marks .entry)) cursor ⌝ }
 {
-    if state_sound(st, table, marks) {
+    let st = f.state;
+    if followed_sound(f, table, marks, cursor.viewer) {
         if cursor.viewer < Cursor::VIEWERS {
             if cursor.progression < st.progressions {
                 let place = cursor.place;

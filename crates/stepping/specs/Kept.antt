@@ -15,7 +15,7 @@ use Rattle.types.specs.declared.answer.Stepped.{Stepped}
 use Rattle.types.specs.declared.answer.Stepped.the-variants as stepped
 use Rattle.walks.specs.Records.{putPacket}
 use Rattle.walks.specs.Running.{Total}
-use Rattle.stepping.specs.Stepped.{steppedOf, turnedOf, hostedOf, steps-none, steps-packet, steps-ended, hosted-none, hosted-next}
+use Rattle.stepping.specs.Stepped.{uncounted, steppedOf, turnedOf, hostedOf, steps-none, steps-packet, steps-ended, hosted-none, hosted-next}
 
 -- STEPS, of which so many are left
 pub record KeptSteps (st : State) (table marks₀ output₀ : List ℕ) (c₀ : Cursor) (n₀ : ℕ) (marks output : List ℕ) (c : Cursor) (n left : ℕ) : Type 0 where
@@ -34,7 +34,7 @@ module _ {st : State} {table marks₀ output₀ : List ℕ} {c₀ : Cursor} {n�
         let e : left ≡ 0 = omega arith in
         sym (w .same ∙ ap (λ (l : ℕ). steppedOf l st table marks c output n) e ∙ steps-none st table marks c output n)
 
-    module _ (r : Stepped) {m : List ℕ} (less : 0 < left) (said : ofStepped r ≡ stepOf st table marks c .said) (by : m ≡ stepOf st table marks c .marks) where
+    module _ (r : Stepped) {m : List ℕ} (less : 0 < left) (said : ofStepped r ≡ stepOf (uncounted st) table marks c .said) (by : m ≡ stepOf (uncounted st) table marks c .marks) where
       with-one : steppedOf mostSteps st table marks₀ c₀ output₀ n₀ ≡ steppedOf (suc (left - 1)) st table marks c output n
       with-one = let e : left ≡ suc (left - 1) = omega arith in w .same ∙ ap (λ (l : ℕ). steppedOf l st table marks c output n) e
 

@@ -1,20 +1,36 @@
 // A whole run made by the public calls alone: setup, and for each progression opening and single steps until the answer is no packet.
-// It is for the bench, which compares and measures steps by it, and is in no header.
-use calls::open::open;
+// It is for the bench, which compares and measures steps by it, and is in no header. Nobody asks for the totals: they are 0, and stay so.
 use calls::output::Output;
 use calls::setup::setup_for;
-use calls::step::step;
 use types::answer::Opened;
 use types::answer::Stepped;
 use types::cursor::Cursor;
+use types::followed::Followed;
 use types::state::State;
 use words::put_four;
 ghost use mathlib.Core.Path.{_≡_};
 ghost use Prim.Native.Nat.{_≤_};
-ghost use Rattle.packets.specs.Calls.{wholeRunOf};
+ghost use Rattle.types.specs.Answers.{ofOpened, ofStepped};
+ghost use Rattle.packets.specs.Calls.{openOf, stepOf, wholeRunOf};
 ghost use Rattle.packets.specs.Host.{mostSteps};
 ghost use Rattle.walks.specs.Running.{Total};
-ghost use Rattle.stepping.specs.Stepped.{steppedOf, turnedOf, hostedOf};
+ghost use Rattle.stepping.specs.Stepped.{uncounted, steppedOf, turnedOf, hostedOf};
+
+fn open(st: State, table: &[u8], marks: &[u8], viewer: u32, k: u32) -> Opened
+    ensures { λ r. ⌜ ofOpened r ≡ openOf (uncounted st) (now (table .entry)) (now (marks .entry)) viewer k ⌝ }
+{
+    let f = Followed::started(st, 0);
+    calls::open::open(f, table, marks, viewer, k)
+}
+
+fn step(st: State, table: &[u8], marks: &mut [u8], cursor: Cursor) -> Stepped
+    ensures says { λ r. ⌜ ofStepped r ≡ stepOf (uncounted st) (now (table .entry)) (now (marks .entry)) cursor .said ⌝ }
+    ensures marked { λ _. ⌜ now (marks .exit) ≡ stepOf (uncounted st) (now (table .entry)) (now (marks .entry)) cursor .marks ⌝ }
+{
+    let f = Followed::started(st, 0);
+    let answer = calls::step::step(f, table, marks, cursor);
+    answer.said
+}
 
 // Steps from a cursor until the answer is no packet, and writes each packet as the next record, with n before them; answers how many there are then.
 fn step_on(

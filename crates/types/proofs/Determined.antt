@@ -8,6 +8,14 @@ use Rattle.types.proofs.cursor.Cursor.fresh.Kinds as fresh-kinds
 use Rattle.types.proofs.cursor.Cursor.fresh.Reads as fresh
 use Rattle.types.proofs.cursor.Cursor.ended.Kinds as ended-kinds
 use Rattle.types.proofs.cursor.Cursor.ended.Reads as ended
+use Rattle.types.proofs.followed.Followed.started.Kinds as started-kinds
+use Rattle.types.proofs.followed.Followed.started.Reads as started
+use Rattle.types.proofs.followed.Followed.total.Kinds as total-kinds
+use Rattle.types.proofs.followed.Followed.total.Reads as total
+use Rattle.types.proofs.followed.Followed.with_total.Kinds as with-total-kinds
+use Rattle.types.proofs.followed.Followed.with_total.Reads as with-total
+use Rattle.types.proofs.followed.Followed.one_less.Kinds as one-less-kinds
+use Rattle.types.proofs.followed.Followed.one_less.Reads as one-less
 use Rattle.types.proofs.state.Progression.none.Kinds as none-kinds
 use Rattle.types.proofs.state.Progression.none.Reads as none
 use Rattle.types.proofs.state.State.empty.Kinds as empty-kinds
@@ -51,6 +59,18 @@ fresh-determined κs a r s e f = determined _ r s
 
 pub ended-determined : OneAnswer ended-kinds.ps ended-kinds.r ended.Post
 ended-determined κs a r s e f = determined _ r s
+
+pub started-determined : OneAnswer started-kinds.ps started-kinds.r started.Post
+started-determined κs a r s e f = determined _ r s
+
+pub total-determined : OneAnswer total-kinds.ps total-kinds.r total.Post
+total-determined κs a r s e f = determined _ r s
+
+pub with-total-determined : OneAnswer with-total-kinds.ps with-total-kinds.r with-total.Post
+with-total-determined κs a r s e f = determined _ r s
+
+pub one-less-determined : OneAnswer one-less-kinds.ps one-less-kinds.r one-less.Post
+one-less-determined κs a r s e f = determined _ r s
 
 pub none-determined : OneAnswer none-kinds.ps none-kinds.r none.Post
 none-determined κs a r s e f = determined _ r s

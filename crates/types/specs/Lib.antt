@@ -3,6 +3,7 @@ pub mod State
 pub mod Ranges
 pub mod Orders
 pub mod Viewers
+pub mod Totals
 pub mod Entries
 pub mod Answers
 pub mod Signed

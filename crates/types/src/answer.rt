@@ -1,6 +1,7 @@
 // What the calls answer. specs/Answers gives document 01's number and values for every case.
 use crate::cursor::Cursor;
 use crate::cursor::Position;
+use crate::followed::Followed;
 use crate::state::State;
 use geometry::tile::Area;
 ghost use mathlib.Core.Path.{_≡_};
@@ -49,6 +50,12 @@ pub struct SetUp {
     pub state: State,
 }
 
+// And with the totals, for those who follow it; with a refusal they are 0.
+pub struct Started {
+    pub verdict: Verdict,
+    pub followed: Followed,
+}
+
 pub enum Opened {
     Cursor(Cursor),
     // -9
@@ -69,6 +76,12 @@ pub enum Joined {
     NoViewer,
 }
 
+// What joining answers, and the state and totals after it.
+pub struct AfterJoin {
+    pub said: Joined,
+    pub followed: Followed,
+}
+
 pub enum Stepped {
     // 1: the packet, with its moved cursor
     Packet(Position, Cursor),
@@ -76,6 +89,12 @@ pub enum Stepped {
     Ended(Cursor),
     // -9: the cursor as given
     Unsound(Cursor),
+}
+
+// What a step answers, and the state and totals after it.
+pub struct AfterStep {
+    pub said: Stepped,
+    pub followed: Followed,
 }
 
 // Where a precinct is (02, P2).

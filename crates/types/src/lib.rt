@@ -2,6 +2,7 @@
 // What is right of them stands in specs/.
 pub mod answer;
 pub mod cursor;
+pub mod followed;
 pub mod mark;
 pub mod order;
 pub mod state;

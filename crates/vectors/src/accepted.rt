@@ -47,7 +47,8 @@ fn set_up(rest: &[u8], beyond: u32) -> bool {
         &mut marks,
         needed + more,
     );
-    let st = up.state;
+    let followed = up.followed;
+    let st = followed.state;
     setups::says(up, 0)
         & reports(st, rest)
         & bytes::same(lent::inside(&table, stored.len()), stored)

@@ -9,7 +9,7 @@ use crate::same;
 use crate::setups;
 use types::answer::Stepped;
 use types::cursor::Cursor;
-use types::state::State;
+use types::followed::Followed;
 use words::put_word;
 
 // The eight words of a record.
@@ -36,8 +36,10 @@ fn put_sheet(sheet: &mut [u8]) {
 }
 
 // Whether a step answers 0, with the ended cursor.
-fn ends(st: State, table: &[u8], marks: &mut [u8], cursor: Cursor) -> bool {
-    match lent::step(st, table, marks, 8, cursor) {
+fn ends(f: Followed, table: &[u8], marks: &mut [u8], cursor: Cursor) -> bool {
+    let answer = lent::step(f, table, marks, 8, cursor);
+    let said = answer.said;
+    match said {
         Stepped::Ended(c) => same::cursor(c, Cursor::ended(0, 0)),
         Stepped::Packet(_, _) => false,
         Stepped::Unsound(_) => false,
@@ -50,19 +52,9 @@ fn stays_dead() -> bool {
     let mut table = [FILL; TABLE];
     let mut marks = [FILL; MARKS];
     let up = lent::setup(&s, &mut table, 32, &mut marks, 8);
-    let st = up.state;
-    let first = ends(
-        st,
-        lent::inside(&table, 32),
-        &mut marks,
-        Cursor::fresh(0, 0),
-    );
-    let second = ends(
-        st,
-        lent::inside(&table, 32),
-        &mut marks,
-        Cursor::ended(0, 0),
-    );
+    let f = up.followed;
+    let first = ends(f, lent::inside(&table, 32), &mut marks, Cursor::fresh(0, 0));
+    let second = ends(f, lent::inside(&table, 32), &mut marks, Cursor::ended(0, 0));
     setups::says(up, 0)
         & first
         & second

@@ -1,11 +1,11 @@
 // What is lent stands in a larger buffer, between guard bytes that must not change.
 use crate::bytes;
-use types::answer::Joined;
+use types::answer::AfterJoin;
+use types::answer::AfterStep;
 use types::answer::Opened;
-use types::answer::SetUp;
-use types::answer::Stepped;
+use types::answer::Started;
 use types::cursor::Cursor;
-use types::state::State;
+use types::followed::Followed;
 ghost use mathlib.Core.Path.{_≡_};
 ghost use Prim.Native.Nat.{_≤_, min};
 ghost use lib.ListN.{length};
@@ -90,7 +90,7 @@ pub(crate) fn setup(
     table_bytes: usize,
     marks: &mut [u8],
     mark_bytes: usize,
-) -> SetUp {
+) -> Started {
     let t0 = start_of(table);
     let t1 = end_of(table, table_bytes);
     let m0 = start_of(marks);
@@ -124,36 +124,36 @@ pub(crate) fn whole_run(
 
 // A step over a table, with so many marks of the buffer lent.
 pub(crate) fn step(
-    st: State,
+    f: Followed,
     table: &[u8],
     marks: &mut [u8],
     mark_bytes: usize,
     cursor: Cursor,
-) -> Stepped {
+) -> AfterStep {
     let m0 = start_of(marks);
     let m1 = end_of(marks, mark_bytes);
-    calls::step::step(st, table, &mut marks[m0..m1], cursor)
+    calls::step::step(f, table, &mut marks[m0..m1], cursor)
 }
 
 pub(crate) fn open(
-    st: State,
+    f: Followed,
     table: &[u8],
     marks: &[u8],
     mark_bytes: usize,
     viewer: u32,
     progression: u32,
 ) -> Opened {
-    calls::open::open(st, table, inside(marks, mark_bytes), viewer, progression)
+    calls::open::open(f, table, inside(marks, mark_bytes), viewer, progression)
 }
 
 pub(crate) fn join(
-    st: State,
+    f: Followed,
     table: &[u8],
     marks: &mut [u8],
     mark_bytes: usize,
     viewer: u32,
-) -> Joined {
+) -> AfterJoin {
     let m0 = start_of(marks);
     let m1 = end_of(marks, mark_bytes);
-    calls::join::join(st, table, &mut marks[m0..m1], viewer)
+    calls::join::join(f, table, &mut marks[m0..m1], viewer)
 }

@@ -47,7 +47,8 @@ fn right(rest: &[u8], question: &[u8]) -> bool {
         &mut marks,
         length(rest, 1),
     );
-    let st = up.state;
+    let followed = up.followed;
+    let st = followed.state;
     lent::flip(&mut table, length(question, 1), bytes::byte(question, 11));
     let said = calls::rectangle::rectangle(
         st,

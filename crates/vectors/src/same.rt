@@ -2,6 +2,7 @@
 use types::cursor::Cursor;
 use types::cursor::Place;
 use types::cursor::Position;
+use types::followed::Followed;
 use types::state::Progression;
 use types::state::State;
 
@@ -74,7 +75,7 @@ fn no_changes(changes: [Progression; 32]) -> bool {
 }
 
 // The state that comes with a refusal: every number 0.
-pub(crate) fn is_empty(st: State) -> bool {
+fn is_empty(st: State) -> bool {
     let dx = st.dx;
     let dy = st.dy;
     let resolutions = st.resolutions;
@@ -94,4 +95,22 @@ pub(crate) fn is_empty(st: State) -> bool {
         & no_numbers(&dy)
         & no_numbers(&resolutions)
         & no_changes(changes)
+}
+
+fn no_totals(totals: &[u32; 8]) -> bool {
+    let mut i = 0;
+    while i < 8 {
+        if totals[i] != 0 {
+            return false;
+        }
+        i += 1;
+    }
+    true
+}
+
+// The same with its totals.
+pub(crate) fn is_nobodys(f: Followed) -> bool {
+    let st = f.state;
+    let totals = f.totals;
+    is_empty(st) & no_totals(&totals)
 }

@@ -5,9 +5,9 @@ use crate::lent::FILL;
 use crate::lent::MOST_MARKS;
 use crate::lent::TABLE;
 use crate::same;
-use types::answer::SetUp;
+use types::answer::Started;
 
-pub(crate) fn says(up: SetUp, number: i32) -> bool {
+pub(crate) fn says(up: Started, number: i32) -> bool {
     let verdict = up.verdict;
     verdict.number() == number
 }
@@ -17,9 +17,9 @@ pub(crate) fn refused(sheet: &[u8], table_bytes: usize, mark_bytes: usize, numbe
     let mut table = [FILL; TABLE];
     let mut marks = [FILL; MOST_MARKS];
     let up = lent::setup(sheet, &mut table, table_bytes, &mut marks, mark_bytes);
-    let st = up.state;
+    let followed = up.followed;
     says(up, number)
-        & same::is_empty(st)
+        & same::is_nobodys(followed)
         & bytes::all_are(&table, FILL)
         & bytes::all_are(&marks, FILL)
 }

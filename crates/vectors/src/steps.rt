@@ -108,14 +108,16 @@ fn right(rest: &[u8], trial: Trial, cursor: Cursor, outcome: u32) -> bool {
         &mut marks,
         length(rest, 1),
     );
-    let st = up.state;
+    let f = up.followed;
+    let st = f.state;
     lent::put(&mut marks, marks_of(rest));
     lent::flip(&mut table, trial.at, trial.bits);
     let found = cursors::listed(positions_of(rest), outcome);
     let mut expected = marks;
     mark_found(st, found, cursor.viewer, &mut expected);
     let part = lent::inside(&table, trial.table_bytes);
-    let said = lent::step(st, part, &mut marks, trial.mark_bytes, cursor);
+    let answer = lent::step(f, part, &mut marks, trial.mark_bytes, cursor);
+    let said = answer.said;
     setups::says(up, 0) & answers(said, cursor, outcome, found) & bytes::same(&marks, &expected)
 }
 

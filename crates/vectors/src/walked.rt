@@ -11,18 +11,21 @@ use crate::setups;
 use geometry::math::wrapping_mul;
 use std::num::wrapping_add_u32;
 use types::answer::Opened;
+use types::answer::Started;
 use types::answer::Stepped;
 use types::cursor::Cursor;
 use types::cursor::Place;
 use types::cursor::Position;
+use types::followed::Followed;
 use types::state::State;
 
-// Packets listed so far, whether all were the stored ones, and where the progression stands.
+// Packets listed so far, whether all were the stored ones, where the progression stands, and the totals.
 struct Listing {
     count: u32,
     right: bool,
     going: bool,
     cursor: Cursor,
+    followed: Followed,
 }
 
 // No stored sheet has more packets.
@@ -53,38 +56,37 @@ fn listed(packets: &[u8], n: u32, p: Position) -> bool {
 }
 
 impl Listing {
-    fn packet(self, right: bool, moved: Cursor) -> Self {
+    fn packet(self, right: bool, moved: Cursor, followed: Followed) -> Self {
         let n = self.count;
         Listing {
             count: if n < MOST { n + 1 } else { n },
             right: self.right & right,
             going: true,
             cursor: moved,
+            followed,
         }
     }
 
-    fn ended(self, right: bool, last: Cursor) -> Self {
+    fn ended(self, right: bool, last: Cursor, followed: Followed) -> Self {
         Listing {
             count: self.count,
             right: self.right & right,
             going: false,
             cursor: last,
+            followed,
         }
     }
 }
 
 // One step more.
-fn turn(
-    st: State,
-    table: &[u8],
-    marks: &mut [u8],
-    needed: usize,
-    packets: &[u8],
-    so_far: Listing,
-) -> Listing {
+fn turn(table: &[u8], marks: &mut [u8], needed: usize, packets: &[u8], so_far: Listing) -> Listing {
     let cursor = so_far.cursor;
+    let f = so_far.followed;
     let k = cursor.progression;
-    match lent::step(st, table, marks, needed, cursor) {
+    let answer = lent::step(f, table, marks, needed, cursor);
+    let after = answer.followed;
+    let said = answer.said;
+    match said {
         Stepped::Packet(p, moved) => {
             let next = Cursor {
                 viewer: 0,
@@ -92,16 +94,15 @@ fn turn(
                 place: Place::At(p),
             };
             let right = listed(packets, so_far.count, p) & same::cursor(moved, next);
-            so_far.packet(right, moved)
+            so_far.packet(right, moved, after)
         }
-        Stepped::Ended(last) => so_far.ended(same::cursor(last, Cursor::ended(0, k)), last),
-        Stepped::Unsound(last) => so_far.ended(false, last),
+        Stepped::Ended(last) => so_far.ended(same::cursor(last, Cursor::ended(0, k)), last, after),
+        Stepped::Unsound(last) => so_far.ended(false, last, after),
     }
 }
 
 // Steps up to the first 0.
 fn to_end(
-    st: State,
     table: &[u8],
     marks: &mut [u8],
     needed: usize,
@@ -114,7 +115,7 @@ fn to_end(
         if !listing.going {
             return listing;
         }
-        listing = turn(st, table, marks, needed, packets, listing);
+        listing = turn(table, marks, needed, packets, listing);
         turns += 1;
     }
     listing
@@ -122,7 +123,6 @@ fn to_end(
 
 // Progression k, opened, to its 0, and one step after it, which is 0 again.
 fn progression(
-    st: State,
     table: &[u8],
     marks: &mut [u8],
     needed: usize,
@@ -130,44 +130,50 @@ fn progression(
     k: u32,
     so_far: Listing,
 ) -> Listing {
-    match lent::open(st, table, marks, needed, 0, k) {
+    let f = so_far.followed;
+    match lent::open(f, table, marks, needed, 0, k) {
         Opened::Cursor(c) => {
             let opened = Listing {
                 count: so_far.count,
                 right: so_far.right & same::cursor(c, Cursor::fresh(0, k)),
                 going: true,
                 cursor: c,
+                followed: f,
             };
-            let end = to_end(st, table, marks, needed, packets, opened);
-            let again = turn(st, table, marks, needed, packets, end);
+            let end = to_end(table, marks, needed, packets, opened);
+            let again = turn(table, marks, needed, packets, end);
             let last = again.cursor;
-            again.ended(!again.going, last)
+            let after = again.followed;
+            again.ended(!again.going, last, after)
         }
-        Opened::Unsound => so_far.ended(false, Cursor::ended(0, k)),
-        Opened::NoViewer => so_far.ended(false, Cursor::ended(0, k)),
-        Opened::NoSuch => so_far.ended(false, Cursor::ended(0, k)),
+        Opened::Unsound => so_far.ended(false, Cursor::ended(0, k), f),
+        Opened::NoViewer => so_far.ended(false, Cursor::ended(0, k), f),
+        Opened::NoSuch => so_far.ended(false, Cursor::ended(0, k), f),
     }
 }
 
-fn all(st: State, table: &[u8], marks: &mut [u8], needed: usize, packets: &[u8]) -> Listing {
+fn all(f: Followed, table: &[u8], marks: &mut [u8], needed: usize, packets: &[u8]) -> Listing {
+    let st = f.state;
     let progressions = st.progressions;
     let mut listing = Listing {
         count: 0,
         right: true,
         going: true,
         cursor: Cursor::fresh(0, 0),
+        followed: f,
     };
     let mut k: u32 = 0;
     while k < progressions {
-        listing = progression(st, table, marks, needed, packets, k, listing);
+        listing = progression(table, marks, needed, packets, k, listing);
         k += 1;
     }
     listing
 }
 
 // Opening one progression more than there are: -11.
-fn no_such(st: State, table: &[u8], marks: &[u8], needed: usize) -> bool {
-    match lent::open(st, table, marks, needed, 0, st.progressions) {
+fn no_such(f: Followed, table: &[u8], marks: &[u8], needed: usize) -> bool {
+    let st = f.state;
+    match lent::open(f, table, marks, needed, 0, st.progressions) {
         Opened::NoSuch => true,
         Opened::Cursor(_) => false,
         Opened::Unsound => false,
@@ -197,8 +203,30 @@ pub(crate) fn leave(
 ) {
     let mut table = [FILL; TABLE];
     let up = lent::setup(sheet, &mut table, table_bytes, marks, needed);
-    let st = up.state;
+    let f = up.followed;
+    let st = f.state;
     mark_listed(st, packets, marks);
+}
+
+// Whether all the stored packets were listed and no other, the marks are as expected, and the total went from all of them to 0.
+fn as_stored(
+    up: Started,
+    listing: Listing,
+    table: &[u8],
+    marks: &[u8],
+    expected: &[u8],
+    packets: &[u8],
+    needed: usize,
+) -> bool {
+    let first = up.followed;
+    let last = listing.followed;
+    setups::says(up, 0)
+        & listing.right
+        & (16 * (listing.count as usize) == packets.len())
+        & (first.total(0) == listing.count)
+        & (last.total(0) == 0)
+        & bytes::same(marks, expected)
+        & no_such(first, table, marks, needed)
 }
 
 pub(crate) fn right(sheet: &[u8], table_bytes: usize, packets: &[u8], needed: usize) -> bool {
@@ -207,17 +235,8 @@ pub(crate) fn right(sheet: &[u8], table_bytes: usize, packets: &[u8], needed: us
     let mut expected = [FILL; MARKS];
     leave(sheet, table_bytes, packets, needed, &mut expected);
     let up = lent::setup(sheet, &mut table, table_bytes, &mut marks, needed);
-    let st = up.state;
-    let listing = all(
-        st,
-        lent::inside(&table, table_bytes),
-        &mut marks,
-        needed,
-        packets,
-    );
-    setups::says(up, 0)
-        & listing.right
-        & (16 * (listing.count as usize) == packets.len())
-        & bytes::same(&marks, &expected)
-        & no_such(st, lent::inside(&table, table_bytes), &marks, needed)
+    let f = up.followed;
+    let part = lent::inside(&table, table_bytes);
+    let listing = all(f, part, &mut marks, needed, packets);
+    as_stored(up, listing, part, &marks, &expected, packets, needed)
 }

@@ -1,4 +1,4 @@
--- `join`: -9 before -15, and else the needed marks without the viewer's bit. Assumes nothing.
+-- `join`: -9 before -15, and else the needed marks without the viewer's bit and its total anew. Assumes nothing.
 use borrow.Author.Needs.{needs}
 use borrow.Author.Tests.{lt-ltb, le-ltb}
 use mathlib.Core.Path.{refl, sym, ap, subst, _∙_}
@@ -6,8 +6,10 @@ use Prim.Native.Nat.{ℕ, _≤_}
 use lib.ListN.{length}
 use denote.Ref.{now}
 use Rattle.laws.specs.Marks.{clearedTo}
-use Rattle.packets.specs.Calls.{joinOf}
-use Rattle.packets.specs.Meaning.{sound-means}
+use Rattle.types.specs.Totals.{withTotal}
+use Rattle.packets.specs.Calls.{Join, joinOf}
+use Rattle.packets.specs.Meaning.{followed-means}
+use Rattle.packets.specs.Steps.{join-good}
 use Rattle.soundness.specs.Needs.{needs-told}
 use Rattle.calls.proofs.join.join.Statement.{statement}
 use Rattle.calls.proofs.join.join.Tie as tie
@@ -24,8 +26,17 @@ cast-clear-for c = search needs
 clear-for-requires : tie.Need-clear-for-requires
 clear-for-requires c κs =
     let a = c .before .before .before .before .before .before .before .before .before .args in
-    let t = needs-told (a .st) (now (a .table)) (now (a .marks)) (c .before .before .before .before .before .marks-needed .ensures) (c .before .before .before .n .given .1) in
-    subst (λ (k : ℕ). k ≤ length (now (a .marks))) (sym (t .1)) (sound-means _ _ _ .0 (t .0) .marks-long)
+    let t = needs-told (a .f) (now (a .table)) (now (a .marks)) (a .viewer) (c .before .before .before .before .before .marks-needed .ensures) (c .before .before .before .n .given .1) in
+    subst (λ (k : ℕ). k ≤ length (now (a .marks))) (sym (t .1)) (followed-means _ _ _ _ .0 (t .0) .0 .marks-long)
+
+total-requires : tie.Need-total-requires
+total-requires c κs =
+    let a = c .before .before .before .before .before .before .before .before .before .before .before .before .before .args in
+    let t = needs-told (a .f) (now (a .table)) (now (a .marks)) (a .viewer) (c .before .before .before .before .before .before .before .before .before .marks-needed .ensures) (c .before .before .before .before .before .before .before .n .given .1) in
+    record { marks = now (a .marks); sound = followed-means _ _ _ _ .0 (t .0) .0 }
+
+with-total-requires : tie.Need-with-total-requires
+with-total-requires c κs = search needs
 
 enum-told : tie.Need-enum-told
 enum-told c = search needs
@@ -34,11 +45,16 @@ same-length : tie.Need-same-length
 same-length c = search needs
 
 returns : tie.Need-returns
-unfolding joinOf
 returns c =
-    let a = c .before .before .before .before .before .before .before .before .before .before .before .before .args in
-    let t = needs-told (a .st) (now (a .table)) (now (a .marks)) (c .before .before .before .before .before .before .before .before .marks-needed .ensures) (c .before .before .before .before .before .before .n .given .1) in
-    rw (t .0, lt-ltb _ 8 (c .before .before .before .before .if1 .taken)) (refl, c .before .before .clear-for .ensures ∙ ap (λ (k : ℕ). clearedTo (a .viewer) k (now (a .marks))) (t .1))
+    let a = c .before .before .before .before .before .before .before .before .before .before .before .before .before .before .before .args in
+    let t = needs-told (a .f) (now (a .table)) (now (a .marks)) (a .viewer) (c .before .before .before .before .before .before .before .before .before .before .before .marks-needed .ensures) (c .before .before .before .before .before .before .before .before .before .n .given .1) in
+    let e = join-good (a .f) (now (a .table)) (now (a .marks)) (a .viewer) (t .0) (lt-ltb _ 8 (c .before .before .before .before .before .before .before .if1 .taken)) in (
+      ap (λ (r : Join). r .number) (sym e),
+      (
+        c .with-total .ensures ∙ ap (withTotal (a .f) (a .viewer)) (c .before .total .ensures) ∙ ap (λ (r : Join). r .followed) (sym e),
+        c .before .before .before .before .before .clear-for .ensures ∙ ap (λ (k : ℕ). clearedTo (a .viewer) k (now (a .marks))) (t .1) ∙ ap (λ (r : Join). r .marks) (sym e),
+      ),
+    )
 
 same-length-2 : tie.Need-same-length-2
 same-length-2 c = search needs
@@ -47,8 +63,8 @@ returns-2 : tie.Need-returns-2
 unfolding joinOf
 returns-2 c =
     let a = c .before .before .before .before .before .before .before .before .args in
-    let t = needs-told (a .st) (now (a .table)) (now (a .marks)) (c .before .before .before .before .marks-needed .ensures) (c .before .before .n .given .1) in
-    rw (t .0, le-ltb _ 8 (c .if1 .left)) (refl, refl)
+    let t = needs-told (a .f) (now (a .table)) (now (a .marks)) (a .viewer) (c .before .before .before .before .marks-needed .ensures) (c .before .before .n .given .1) in
+    rw (t .0, le-ltb _ 8 (c .if1 .left)) (refl, (refl, refl))
 
 same-length-3 : tie.Need-same-length-3
 same-length-3 c = search needs
@@ -57,7 +73,7 @@ returns-3 : tie.Need-returns-3
 unfolding joinOf
 returns-3 c =
     let a = c .before .before .before .before .before .before .args in
-    rw (needs-told (a .st) (now (a .table)) (now (a .marks)) (c .before .before .marks-needed .ensures) (c .enum-told .given .1)) (refl, refl)
+    rw (needs-told (a .f) (now (a .table)) (now (a .marks)) (a .viewer) (c .before .before .marks-needed .ensures) (c .enum-told .given .1)) (refl, (refl, refl))
 
 pub join-spec : {M : Type 1} → statement M
 join-spec =
@@ -67,6 +83,8 @@ join-spec =
     enum-known-n
     cast-clear-for
     clear-for-requires
+    total-requires
+    with-total-requires
     enum-told
     same-length
     returns

@@ -7,10 +7,10 @@ use Rattle.vectors.proofs.walked.all.Statement.{statement}
 use Rattle.vectors.proofs.walked.all.Tie as tie
 
 abbrev Inv-loop : tie.InvT-loop
-Inv-loop st table marks₀ needed packets progressions listing₀ k₀ marks listing k = (k ≤ progressions) × (progressions < 2 ^ 32) × (length marks ≡ length marks₀)
+Inv-loop table marks₀ needed packets progressions listing₀ k₀ marks listing k = (k ≤ progressions) × (progressions < 2 ^ 32) × (length marks ≡ length marks₀)
 
 abbrev μ-loop : tie.MeasureT-loop
-μ-loop st table marks₀ needed packets progressions listing₀ k₀ marks listing k = progressions - k
+μ-loop table marks₀ needed packets progressions listing₀ k₀ marks listing k = progressions - k
 
 fresh-requires : tie.Need-fresh-requires Inv-loop μ-loop
 fresh-requires c κs = search needs

@@ -7,10 +7,10 @@ use Rattle.vectors.proofs.walked.to_end.Statement.{statement}
 use Rattle.vectors.proofs.walked.to_end.Tie as tie
 
 abbrev Inv-loop : tie.InvT-loop
-Inv-loop st table marks₀ needed packets listing₀ turns₀ marks listing turns = (turns ≤ 65536) × (length marks ≡ length marks₀)
+Inv-loop table marks₀ needed packets listing₀ turns₀ marks listing turns = (turns ≤ 65536) × (length marks ≡ length marks₀)
 
 abbrev μ-loop : tie.MeasureT-loop
-μ-loop st table marks₀ needed packets listing₀ turns₀ marks listing turns = 65536 - turns
+μ-loop table marks₀ needed packets listing₀ turns₀ marks listing turns = 65536 - turns
 
 loop-holds : tie.Need-loop-holds Inv-loop μ-loop
 loop-holds c = search needs

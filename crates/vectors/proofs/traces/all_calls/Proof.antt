@@ -1,16 +1,16 @@
--- `traces::all_right`: call after call, and the marks keep their length. Assumes nothing.
+-- `traces::all_calls`: call after call, and the marks keep their length. Assumes nothing.
 use mathlib.Core.Path.{_≡_}
-use Prim.Native.Nat.{_≤_, _-_}
+use Prim.Native.Nat.{_≤_, _<_, _-_, _^_}
 use lib.ListN.{length}
 use borrow.Author.Needs.{needs}
-use Rattle.vectors.proofs.traces.all_right.Statement.{statement}
-use Rattle.vectors.proofs.traces.all_right.Tie as tie
+use Rattle.vectors.proofs.traces.all_calls.Statement.{statement}
+use Rattle.vectors.proofs.traces.all_calls.Tie as tie
 
 abbrev Inv-loop : tie.InvT-loop
-Inv-loop st table marks₀ positions calls count right₀ i₀ marks right i = (i ≤ count) × (length marks ≡ length marks₀)
+Inv-loop table marks₀ positions calls count right₀ last₀ i₀ marks right last i = (i ≤ count) × (count < 2 ^ 63) × (length marks ≡ length marks₀)
 
 abbrev μ-loop : tie.MeasureT-loop
-μ-loop st table marks₀ positions calls count right₀ i₀ marks right i = count - i
+μ-loop table marks₀ positions calls count right₀ last₀ i₀ marks right last i = count - i
 
 loop-holds : tie.Need-loop-holds Inv-loop μ-loop
 loop-holds c = search needs
@@ -21,8 +21,8 @@ mul-part c = search needs
 part-requires : tie.Need-part-requires Inv-loop μ-loop
 part-requires c κs = search needs
 
-right-call-requires : tie.Need-right-call-requires Inv-loop μ-loop
-right-call-requires c κs = search needs
+call-requires : tie.Need-call-requires Inv-loop μ-loop
+call-requires c κs = search needs
 
 add-i : tie.Need-add-i Inv-loop μ-loop
 add-i c = search needs
@@ -39,8 +39,8 @@ same-length c = search needs
 returns : tie.Need-returns Inv-loop μ-loop
 returns c = search needs
 
-pub all-right-spec : {M : Type 1} → statement M
-all-right-spec =
+pub all-calls-spec : {M : Type 1} → statement M
+all-calls-spec =
     tie.close
     (tie.spec
     Inv-loop
@@ -48,7 +48,7 @@ all-right-spec =
     loop-holds
     mul-part
     part-requires
-    right-call-requires
+    call-requires
     add-i
     loop-less
     loop-again
