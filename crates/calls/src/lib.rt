@@ -1,4 +1,6 @@
 // The public calls: setup, opening, step, the rectangle of a precinct and whole run. Soundness, the test before every call on a state, is a crate of its own.
+#![tactic(auto)]
+
 pub mod join;
 mod marks;
 pub mod open;

@@ -1,5 +1,7 @@
 // The lower layer: arithmetic, tile bounds, and one axis of the tile with its components, resolutions and precincts.
 // Every function is total: it answers a value, or refuses with the number that document 01 gives.
+#![tactic(auto)]
+
 pub mod axis;
 pub mod ceiling;
 pub mod math;

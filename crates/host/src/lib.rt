@@ -1,4 +1,6 @@
 // The exports for C (include/bonxigarth.h): plain numbers and byte buffers.
+#![tactic(auto)]
+
 ghost use Rattle.std.specs.Prelude.{◌≡◌};
 ghost use Rattle.packets.specs.Bounds.{bounds_of};
 ghost use Rattle.packets.specs.Calls.{whole_run_of};

@@ -14,7 +14,7 @@ use Rattle.laws.specs.Lists.{NoRepeats, none, more, no_repeats-append, behind, b
 
 module _ {A B : Type 0} where
   -- membership in a gathered list
-  pub gathered : (f : A → List B) {is : List A} {i : A} {b : B} → In i is → In b (f i) → In b (gather f is)
+  pub gathered : (f : A → List B) {i : A} {is : List A} {b : B} → In i is → In b (f i) → In b (gather f is)
   unfolding gather
   gathered f {b = b} (here {xs = is} e) h = in_left (gather f is) (subst (λ j. In b (f j)) e h)
   gathered f (there {x = i} q) h = in_right (f i) (gathered f q h)

@@ -105,7 +105,7 @@ module _ {A : Type 0} where
   put_swap : {x y : A} {ks bs cs : List A} → Put y bs cs → Put x ks bs → (ds : List A) × Put x ds cs × Put y ks ds
   put_swap {ks = ks} (front {y = c} e) q = (c ∷ ks, later q, front e)
   put_swap (later {ys = cs} p) (front e) = (cs, front e, p)
-  put_swap (later {z = z} p) (later q) = let r = put_swap p q in (z ∷ r.0, later r.1, later r.2)
+  put_swap (later {zs = bs} p) (later {z = z} {zs = ks} q) = let r = put_swap {ks = ks} p q in (z ∷ r.0, later r.1, later r.2)
 
   put_cast : {x y : A} {ks bs : List A} → x ≡ y → Put y ks bs → Put x ks bs
   put_cast e (front d) = front (e ∙ d)

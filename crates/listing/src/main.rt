@@ -1,6 +1,8 @@
 // The listing program (01, 'Listing program and its sheets'): reads a sheet from standard input and prints a line for each packet, then the count;
 // or a line such as `refused -1`. A refused sheet is an answer like any other. An input that cannot be read or a listing that cannot be written is told
 // on standard error; a Rattle program always ends with status 0, so tools/list, which runs this one, answers 1 then.
+#![tactic(auto)]
+
 mod read;
 mod text;
 

@@ -1,4 +1,6 @@
 // Reads a sheet (01, 'The sheet'): the first refusal -1, -2, -3 in reading order, or its fields.
+#![tactic(auto)]
+
 mod fields;
 mod judge;
 

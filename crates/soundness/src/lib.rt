@@ -1,4 +1,6 @@
 // Soundness (01, 'Sound means'): the test before every call on a state.
+#![tactic(auto)]
+
 mod fields;
 mod place;
 mod reports;

@@ -1,5 +1,7 @@
 // A whole run made by the public calls alone: setup, and for each progression opening and single steps until the answer is no packet.
 // It is for the bench, which compares and measures steps by it, and is in no header. Nobody asks for the totals: they are 0, and stay so.
+#![tactic(auto)]
+
 ghost use Rattle.std.specs.Prelude.{◌≡◌, ◌≤◌};
 ghost use Rattle.types.specs.Answers.{of_opened, of_stepped};
 ghost use Rattle.packets.specs.Calls.{open_of, step_of, whole_run_of};

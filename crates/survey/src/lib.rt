@@ -1,5 +1,7 @@
 // One survey of every resolution of every component, for setup and for soundness alike: the numbers that setup reports, whether the grid is agreed, the
 // marks needed, and the words of the table. The precinct exponents are read where they stand: in a sheet's records or in a table's entries.
+#![tactic(auto)]
+
 mod axes;
 mod capped;
 mod component;

@@ -1,5 +1,7 @@
 // Stored cases, replayed through our functions: numbers, table bytes, marks and guard bytes are compared. data/rust has answers of the Rust,
 // data/model those of a model of document 01; bench/README.md has their format. A line for each kind says how many cases were wrong.
+#![tactic(auto)]
+
 mod accepted;
 mod bytes;
 mod cursors;

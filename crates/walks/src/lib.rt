@@ -1,4 +1,6 @@
 // The five walks and the five listings, over prepared numbers: what a step takes, and the listing of all progressions. Both ask for a sound state.
+#![tactic(auto)]
+
 mod cell;
 mod count;
 mod cprl;

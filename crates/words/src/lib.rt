@@ -1,4 +1,6 @@
 // Big-endian 32-bit words in lent bytes. The functions are total: where the bytes are not all there, a word is read as 0 and nothing is written.
+#![tactic(auto)]
+
 ghost use Rattle.std.specs.Prelude.{◌≡◌, ◌+◌, ◌/◌, ◌%◌, ◌^◌, ◌≤◌, ◌<◌, length};
 ghost use Rattle.words.specs.Words.{word_at, four_at, put_word, put_four};
 
