@@ -8,7 +8,7 @@ ghost use Rattle.geometry.specs.Axis.{axis_of, resolution_of, columns_of, cell_o
 use crate::{ceiling, math, power};
 
 // A component: its bounds, and its step, XRsiz or YRsiz.
-#[derive(Drop)]
+#[derive(Clone, Copy)]
 pub struct Axis {
     pub c0: u32,
     pub c1: u32,
@@ -16,21 +16,21 @@ pub struct Axis {
 }
 
 // The bounds of a resolution.
-#[derive(Drop)]
+#[derive(Clone, Copy)]
 pub struct Resolution {
     pub r0: u32,
     pub r1: u32,
 }
 
 // The precincts of a resolution: the number of the first, counted from 0 on the resolution's grid, and how many there are.
-#[derive(Drop)]
+#[derive(Clone, Copy)]
 pub struct Columns {
     pub first: u32,
     pub count: u32,
 }
 
 // The tile from t0 to t1 as a resolution sees it: the component's step, the resolution's level and its precinct exponent.
-#[derive(Drop)]
+#[derive(Clone, Copy)]
 pub struct Line {
     pub t0: u32,
     pub t1: u32,

@@ -6,7 +6,7 @@ ghost use Rattle.geometry.specs.Math.{add_sat, ceildiv_of, ceildiv64_of, floordi
 use crate::ceiling;
 
 // A 32-bit answer.
-#[derive(Drop)]
+#[derive(Clone, Copy)]
 pub enum Word {
     Value(u32),
     // -22

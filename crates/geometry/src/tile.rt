@@ -6,7 +6,7 @@ ghost use Rattle.geometry.specs.Tile.{start_of, side_of, tile_bounds_of};
 use crate::math;
 
 // An area of the reference grid; its ends are not in it.
-#[derive(Drop)]
+#[derive(Clone, Copy)]
 pub struct Area {
     pub x0: u32,
     pub y0: u32,
@@ -15,7 +15,7 @@ pub struct Area {
 }
 
 // The tile grid: its origin, the size of a tile, and how many tiles stand side by side and one below the other.
-#[derive(Drop)]
+#[derive(Clone, Copy)]
 pub struct Grid {
     pub tx0: u32,
     pub ty0: u32,
@@ -26,13 +26,13 @@ pub struct Grid {
 }
 
 // A tile's extent on one axis.
-#[derive(Drop)]
+#[derive(Clone, Copy)]
 pub struct Side {
     pub start: u32,
     pub end: u32,
 }
 
-#[derive(Drop)]
+#[derive(Clone, Copy)]
 pub enum Tile {
     Bounds(Area),
     // -10

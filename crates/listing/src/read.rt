@@ -3,7 +3,7 @@ ghost use Rattle.listing.specs.Within.{Within};
 
 use libc::STDIN_FILENO;
 
-#[derive(Drop)]
+#[derive(Clone, Copy)]
 pub(crate) enum Input {
     // how many bytes came
     Bytes(usize),

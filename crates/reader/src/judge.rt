@@ -7,7 +7,7 @@ use types::state::{Progression, State};
 use words::word_at;
 
 // What is still due: resolutions of the component at hand, components, progressions.
-#[derive(Drop)]
+#[derive(Clone, Copy)]
 pub(crate) struct Due {
     pub resolutions: u32,
     pub components: u32,

@@ -20,14 +20,14 @@ use types::state::State;
 use types::table::{Entry, entries};
 
 // How many marks a sound state needs.
-#[derive(Drop)]
+#[derive(Clone, Copy)]
 pub enum Needs {
     Marks(u32),
     Unsound,
 }
 
 // What is known of a state and its table.
-#[derive(Drop)]
+#[derive(Clone, Copy)]
 struct Known {
     sound: bool,
     // the marks needed, of what is sound

@@ -7,7 +7,7 @@ use geometry::axis::Line;
 use types::state::State;
 use types::table::{Entry, entries};
 
-#[derive(Drop)]
+#[derive(Clone, Copy)]
 pub struct Sides {
     pub entry: Entry,
     pub x: Line,

@@ -6,7 +6,7 @@ use geometry::axis::Axis;
 use geometry::tile::Area;
 use types::table::Entry;
 
-#[derive(Drop)]
+#[derive(Clone, Copy)]
 pub(crate) struct Axes {
     pub x: Axis,
     pub y: Axis,

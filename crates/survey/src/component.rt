@@ -13,7 +13,7 @@ use types::state::State;
 use words::{Four, four_at};
 
 // The fields of a component's record.
-#[derive(Drop)]
+#[derive(Clone, Copy)]
 pub(crate) struct Comp {
     pub dx: u32,
     pub dy: u32,

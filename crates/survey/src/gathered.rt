@@ -9,7 +9,7 @@ use crate::sums::Sums;
 use geometry::{axis, math, power};
 use types::table::Entry;
 
-#[derive(Drop)]
+#[derive(Clone, Copy)]
 pub(crate) struct Gathered {
     // everything passed was good; else all numbers are 0
     pub good: bool,

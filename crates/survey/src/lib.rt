@@ -27,13 +27,13 @@ use geometry::tile::Area;
 use types::state::State;
 
 // Where precinct exponents stand: in the records of a sheet, or in the entries of a table.
-#[derive(Drop)]
+#[derive(Clone, Copy)]
 pub enum Source {
     Records,
     Entries,
 }
 
-#[derive(Drop)]
+#[derive(Clone, Copy)]
 pub struct Findings {
     // every range holds, and the sizes where they were to be checked; else all numbers are 0
     pub good: bool,

@@ -5,7 +5,7 @@ ghost use Rattle.survey.specs.Passing.{marks_of};
 use crate::capped;
 use types::state::State;
 
-#[derive(Drop)]
+#[derive(Clone, Copy)]
 pub(crate) struct Marks {
     // at most 65,536; else the numbers are 0
     pub few: bool,

@@ -7,7 +7,7 @@ use types::state::State;
 use types::table::Entry;
 
 // In bytes: the first exponents of a component, the way from a resolution to the next, and what stands between two components.
-#[derive(Drop)]
+#[derive(Clone, Copy)]
 pub(crate) struct Places {
     pub first: usize,
     pub apart: usize,

@@ -4,7 +4,7 @@ ghost use Rattle.survey.specs.Passing.{no_sums, start_sums, joined_sums};
 
 use geometry::math;
 
-#[derive(Drop)]
+#[derive(Clone, Copy)]
 pub(crate) struct Sums {
     // everything passed was good; else no step fits, and all numbers are 0
     pub good: bool,

@@ -8,7 +8,7 @@ use crate::state::State;
 use geometry::tile::Area;
 
 // Whether a sheet, and what is lent with it, is accepted.
-#[derive(Drop)]
+#[derive(Clone, Copy)]
 pub enum Verdict {
     Accepted,
     // -1: empty, no multiple of 32 bytes, or too long
@@ -46,20 +46,20 @@ impl Verdict {
 }
 
 // An enum cannot hold an array, so the verdict stands beside the state, which is the empty one unless the sheet is accepted.
-#[derive(Drop)]
+#[derive(Clone, Copy)]
 pub struct SetUp {
     pub verdict: Verdict,
     pub state: State,
 }
 
 // And with the totals, for those who follow it; with a refusal they are 0.
-#[derive(Drop)]
+#[derive(Clone, Copy)]
 pub struct Started {
     pub verdict: Verdict,
     pub followed: Followed,
 }
 
-#[derive(Drop)]
+#[derive(Clone, Copy)]
 pub enum Opened {
     Cursor(Cursor),
     // -9
@@ -71,7 +71,7 @@ pub enum Opened {
 }
 
 // Joining: a viewer's bits of the needed marks are cleared (02, P4).
-#[derive(Drop)]
+#[derive(Clone, Copy)]
 pub enum Joined {
     // 0
     Done,
@@ -82,13 +82,13 @@ pub enum Joined {
 }
 
 // What joining answers, and the state and totals after it.
-#[derive(Drop)]
+#[derive(Clone, Copy)]
 pub struct AfterJoin {
     pub said: Joined,
     pub followed: Followed,
 }
 
-#[derive(Drop)]
+#[derive(Clone, Copy)]
 pub enum Stepped {
     // 1: the packet, with its moved cursor
     Packet(Position, Cursor),
@@ -99,14 +99,14 @@ pub enum Stepped {
 }
 
 // What a step answers, and the state and totals after it.
-#[derive(Drop)]
+#[derive(Clone, Copy)]
 pub struct AfterStep {
     pub said: Stepped,
     pub followed: Followed,
 }
 
 // Where a precinct is (02, P2).
-#[derive(Drop)]
+#[derive(Clone, Copy)]
 pub enum Located {
     // 0: its rectangle on its resolution
     Rectangle(Area),

@@ -5,7 +5,7 @@ ghost use Rattle.types.specs.Totals.{started_with, total_for, with_total};
 use crate::cursor::Cursor;
 use crate::state::State;
 
-#[derive(Drop)]
+#[derive(Clone, Copy)]
 pub struct Followed {
     pub state: State,
     pub totals: [u32; Followed::PLACES],

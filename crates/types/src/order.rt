@@ -6,7 +6,7 @@ use crate::state::{Progression, State};
 use geometry::math;
 
 // The orders of T.800 B.12.1; any other number has no positions.
-#[derive(Drop)]
+#[derive(Clone, Copy)]
 pub enum Order {
     Lrcp,
     Rlcp,
@@ -58,7 +58,7 @@ impl Order {
 }
 
 // The ranges of the loops; ends are not included. Layers start at 0.
-#[derive(Drop)]
+#[derive(Clone, Copy)]
 pub struct Range {
     pub layno1: u32,
     pub resno0: u32,

@@ -4,7 +4,7 @@ ghost use Rattle.types.specs.Ranges.{within, tile_range, component_range, expone
 ghost use Rattle.types.specs.State.{no_progression, no_reports, empty_state};
 
 // A progression as its record has it. Names are those of opj_poc_t.
-#[derive(Drop)]
+#[derive(Clone, Copy)]
 pub struct Progression {
     // 4, 6 for one whose steps need not divide one another, or 5 for one of the whole tile
     pub kind: u32,
@@ -17,7 +17,7 @@ pub struct Progression {
 }
 
 // What setup reports: the largest precinct count and number of resolutions, and the smallest steps.
-#[derive(Drop)]
+#[derive(Clone, Copy)]
 pub struct Reports {
     pub max_prec: u32,
     pub max_res: u32,
@@ -25,7 +25,7 @@ pub struct Reports {
     pub dy_min: u32,
 }
 
-#[derive(Drop)]
+#[derive(Clone, Copy)]
 pub struct State {
     // the tile
     pub tx0: u32,

@@ -6,7 +6,7 @@ ghost use Rattle.types.specs.Entries.{entry_at};
 use crate::state::State;
 
 // The entry of a resolution.
-#[derive(Drop)]
+#[derive(Clone, Copy)]
 pub struct Entry {
     pub pdx: u32,
     pub pdy: u32,

@@ -8,7 +8,7 @@ use types::followed::Followed;
 use words::put_word;
 
 // The eight words of a record.
-#[derive(Drop)]
+#[derive(Clone, Copy)]
 struct Record(u32, u32, u32, u32, u32, u32, u32, u32);
 
 fn put_record(sheet: &mut [u8], i: u32, r: Record) {

@@ -1,7 +1,7 @@
 // A file of cases: kind, length of the rest in bytes, rest.
 use words::word_at;
 
-#[derive(Drop)]
+#[derive(Clone, Copy)]
 pub(crate) enum Head {
     // its kind, and the length of the rest
     Case(u32, usize),

@@ -48,7 +48,7 @@ fn alterations_of(rest: &[u8]) -> &[u8] {
 }
 
 // What is lent for a step, and a byte of the table with bits of it changed.
-#[derive(Drop)]
+#[derive(Clone, Copy)]
 struct Trial {
     table_bytes: usize,
     mark_bytes: usize,

@@ -1,6 +1,6 @@
 // How many cases of a kind were replayed, and how many of them were wrong.
 
-#[derive(Drop)]
+#[derive(Clone, Copy)]
 pub(crate) struct Tally {
     pub(crate) kind: u32,
     pub(crate) cases: u32,

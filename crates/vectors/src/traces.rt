@@ -67,7 +67,7 @@ fn opens(said: Opened, fresh: Cursor, number: i32) -> bool {
 }
 
 // Whether a call was answered right, and the totals after it.
-#[derive(Drop)]
+#[derive(Clone, Copy)]
 struct Answered {
     right: bool,
     followed: Followed,

@@ -10,7 +10,7 @@ use types::followed::Followed;
 use types::state::State;
 
 // Packets listed so far, whether all were the stored ones, where the progression stands, and the totals.
-#[derive(Drop)]
+#[derive(Clone, Copy)]
 struct Listing {
     count: u32,
     right: bool,

@@ -6,7 +6,7 @@ ghost use Rattle.walks.specs.InRow.{row_of, AtRow, SomeRow, RowPoint, SomeRowPoi
 
 use crate::prepared::{Along, along_x, along_y, width_at};
 
-#[derive(Drop)]
+#[derive(Clone, Copy)]
 pub(crate) enum Cell {
     At(u32),
     Nothing,

@@ -20,7 +20,7 @@ use types::cursor::Position;
 use types::state::State;
 
 // What a point is left with: how many packets there are then, and the next column.
-#[derive(Drop)]
+#[derive(Clone, Copy)]
 struct Passed {
     count: u32,
     next: u32,

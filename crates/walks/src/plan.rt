@@ -10,7 +10,7 @@ use geometry::math;
 use types::order::{Order, Range};
 use types::state::{Progression, State};
 
-#[derive(Drop)]
+#[derive(Clone, Copy)]
 pub(crate) struct Plan {
     // none also where the ranges admit no position
     pub order: Order,

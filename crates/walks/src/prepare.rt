@@ -27,7 +27,7 @@ fn shown(wide: u32, count: u32) -> u32
 }
 
 // A component along one axis of the tile, and where the tile starts.
-#[derive(Drop)]
+#[derive(Clone, Copy)]
 struct Side {
     t: u32,
     axis: Axis,

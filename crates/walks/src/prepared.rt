@@ -20,7 +20,7 @@ pub(crate) fn put_number(numbers: &mut [u32; State::MAX_ENTRIES], r: u32, c: u32
 }
 
 // A resolution along one axis: its step, the tile's start where it lies inside a precinct (else what no point is), and its first column or row.
-#[derive(Drop)]
+#[derive(Clone, Copy)]
 pub(crate) struct Along {
     pub step: u32,
     pub start: u32,

@@ -6,7 +6,7 @@ ghost use Rattle.walks.specs.Part.{part_by};
 use types::cursor::Position;
 
 // Whose marks a walk goes by, and a progression's ranges, the tile and the strides, as plain numbers.
-#[derive(Drop)]
+#[derive(Clone, Copy)]
 pub(crate) struct Walk {
     pub viewer: u32,
     pub layno1: u32,
@@ -45,7 +45,7 @@ pub(crate) fn part(w: Walk, r0: u32, r1: u32, c0: u32, c1: u32) -> Walk
 }
 
 // What a search ends with.
-#[derive(Drop)]
+#[derive(Clone, Copy)]
 pub enum Found {
     At(Position),
     Nothing,

@@ -27,7 +27,7 @@ pub fn word_at(s: &[u8], at: usize) -> u32
 }
 
 // Four words, one after the other.
-#[derive(Drop)]
+#[derive(Clone, Copy)]
 pub struct Four {
     pub a: u32,
     pub b: u32,

@@ -2,7 +2,7 @@
 use crate::show;
 use geometry::{math, precinct};
 
-#[derive(Drop)]
+#[derive(Clone, Copy)]
 struct Pair(u32, u32);
 
 // Divisors 0 and 1; sums and products just below, at and above 2^32; divisions with and without a remainder.

@@ -3,7 +3,7 @@ use crate::show;
 use geometry::{math, precinct};
 
 // A number and an exponent.
-#[derive(Drop)]
+#[derive(Clone, Copy)]
 struct Shift(u32, u32);
 
 // Exponents just below, at and above both widths; numbers just below, at and above a multiple of the power.

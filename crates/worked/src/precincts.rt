@@ -4,7 +4,7 @@ use geometry::axis::Resolution;
 use geometry::precinct;
 
 // From, to, and the precinct exponent.
-#[derive(Drop)]
+#[derive(Clone, Copy)]
 struct Span(u32, u32, u32);
 
 // Empty and reversed axes; starts and ends just below, at and above a precinct's; exponents 0, 15, 31 and from 32 on; ends at 2^32 - 1.

@@ -5,7 +5,7 @@ use geometry::tile;
 use geometry::tile::{Area, Grid, Tile};
 
 // The image x0 y0 x1 y1, the grid tx0 ty0 tdx tdy tw th, and the tile's number.
-#[derive(Drop)]
+#[derive(Clone, Copy)]
 struct Case(u32, u32, u32, u32, u32, u32, u32, u32, u32, u32, u32);
 
 const MAX: u32 = 0xffff_ffff;

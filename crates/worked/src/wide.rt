@@ -2,7 +2,7 @@
 use crate::show;
 use geometry::math;
 
-#[derive(Drop)]
+#[derive(Clone, Copy)]
 struct Pair(u64, u64);
 
 // Divisors 0 and 1; quotients just below, at and above 2^32; sums of the operands just below, at and above 2^64.
