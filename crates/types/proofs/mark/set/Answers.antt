@@ -1,0 +1,13 @@
+-- `set`: by the byte; beyond the marks nothing changes. Assumes nothing.
+use mathlib.Core.Path.{sym}
+use lib.Seq.{set_out}
+use Rattle.types.specs.Viewers.{set_at}
+use Rattle.types.proofs.mark.set.Goals as goal
+
+pub returns-then-i-marks : goal.returns-then-i-marks
+unfolding set_at
+returns-then-i-marks c = rw c.with_bit.ensures
+
+pub returns-else-i-marks : goal.returns-else-i-marks
+unfolding set_at
+returns-else-i-marks c = sym (set_out c.args.marks.now _ _ c.if-i-marks.false)
