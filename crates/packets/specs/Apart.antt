@@ -30,20 +30,20 @@ by_number (negsuc (suc (suc (suc (suc (suc zero)))))) = verdict.Marks
 by_number (negsuc (suc (suc (suc (suc (suc (suc zero))))))) = verdict.Table
 by_number (negsuc (suc (suc (suc (suc (suc (suc (suc n)))))))) = verdict.Output
 
-by_number : (v : Verdict) → by_number (number_of v) ≡ v
+by_number_lem : (v : Verdict) → by_number (number_of v) ≡ v
 unfolding by_number
-by_number verdict.Accepted = refl
-by_number verdict.Length = refl
-by_number verdict.Shape = refl
-by_number verdict.Range = refl
-by_number verdict.Grid = refl
-by_number verdict.TooMany = refl
-by_number verdict.Marks = refl
-by_number verdict.Table = refl
-by_number verdict.Output = refl
+by_number_lem verdict.Accepted = refl
+by_number_lem verdict.Length = refl
+by_number_lem verdict.Shape = refl
+by_number_lem verdict.Range = refl
+by_number_lem verdict.Grid = refl
+by_number_lem verdict.TooMany = refl
+by_number_lem verdict.Marks = refl
+by_number_lem verdict.Table = refl
+by_number_lem verdict.Output = refl
 
 pub verdict-apart : (v w : Verdict) → number_of v ≡ number_of w → v ≡ w
-verdict-apart v w e = sym (by_number v) ∙ ap by_number e ∙ by_number w
+verdict-apart v w e = sym (by_number_lem v) ∙ ap by_number e ∙ by_number_lem w
 
 pub setup-apart : (r s : SetUp) → of_set_up r ≡ of_set_up s → r ≡ s
 setup-apart r s e = λ i. record { verdict = verdict-apart r.verdict s.verdict (ap (λ (x : SetUpSaid). x.number) e) i; state = (e i).state }

@@ -160,9 +160,9 @@ module _ (sheet table marks : List ℕ) (bytes : Bytes sheet) (p : Passed sheet 
     abbrev own_y : Line
     own_y = record { t0 = wd sheet 0 2; t1 = wd sheet 0 4; d = wd sheet (component_record sheet c) 2; level = wd sheet (component_record sheet c) 3 - 1 - r; pd = wd sheet (resolution_record sheet c r) 2 }
 
-    line_x : line_x (sheet_of sheet) c r ≡ own_x
+    line_x_lem : line_x (sheet_of sheet) c r ≡ own_x
     unfolding reported fields_of
-    line_x =
+    line_x_lem =
         let d = dx_is sheet c h in
         let res = res_is sheet c h in
         λ i. record { t0 = wd sheet 0 1; t1 = wd sheet 0 3; d = d i; level = res i - 1 - r; pd = wd sheet (resolution_record sheet c r) 1 }
@@ -181,7 +181,7 @@ module _ (sheet table marks : List ℕ) (bytes : Bytes sheet) (p : Passed sheet 
     is_resolution = unfold reported in rw (res_is sheet c h) k
 
     pub own_wide : entry_word state u.table 2 c r ≡ count own_x
-    own_wide = (sound.entry c is_component r is_resolution).wide ∙ ap count (own-alike.same_x c r is_component is_resolution ∙ line_x)
+    own_wide = (sound.entry c is_component r is_resolution).wide ∙ ap count (own-alike.same_x c r is_component is_resolution ∙ line_x_lem)
 
     pub own-high : entry_word state u.table 3 c r ≡ count own_y
     own-high = (sound.entry c is_component r is_resolution).high ∙ ap count (own-alike.same_y c r is_component is_resolution ∙ line_y_lem)
