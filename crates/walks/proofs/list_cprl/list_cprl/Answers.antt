@@ -1,0 +1,48 @@
+-- `list_cprl` meets its contract: the run's end from the components that are left is that from all of them. A turn is the law `one-left` of specs/Cprl: one
+-- component is listed by PCRL. Assumes nothing.
+use mathlib.Core.Path.{refl}
+use Prim.Native.Nat.{◌-◌}
+use native.Mathlib.Omega.{arith}
+use Rattle.walks.specs.Walk.{ready_long}
+use Rattle.walks.specs.Listing.{first-listed, part_listed, few_part, all-listed}
+use Rattle.walks.specs.Pcrl as pcrl
+use Rattle.walks.specs.Cprl.{wholly, alone, none_left, ready-alone, one-left}
+use Rattle.walks.proofs.list_cprl.list_cprl.Goals as goal
+
+pub cs-init : goal.cs-init
+cs-init c = (omega arith, c.requires.0, first-listed _ _ _ _ _ _ (λ s g h. refl))
+
+pub list_pcrl-count-requires : goal.list_pcrl-count-requires
+list_pcrl-count-requires c κs =
+    let z = c.before in
+    let p = z.requires.1 in
+    let i = z.cs.invariant in
+    let t = z.cs-test.true in
+    let h = p.1.1 in
+    rw c.part-one.ensures (
+      i.1,
+      (p.0, (alone p.1.0 _, ready_long _ _ _ _ _ _ i.2.long (ready-alone _ _ _ _ _ h _ i.0 t), few_part _ _ _ _ _ _ i.2 _ _ _ _ h (one-left _ _ _ _ _ h _ i.0 t _ _ _ _) p.1.2)),
+    )
+
+pub cs-preserved : goal.cs-preserved
+cs-preserved c =
+    let z = c.before in
+    let one = z.part-one in
+    let k = z.cs.c in
+    let i = z.cs.invariant in
+    let t = z.cs-test.true in
+    let listed = z.list_pcrl-count.ensures in (
+      omega (arith, i.0),
+      listed.0,
+      part_listed _ _ _ _ _ _ i.2 (λ s g. pcrl.wholly one.result s (alone g k)) _ (λ s g h. rw one.ensures (one-left s g _ _ _ h k i.0 t _ _ _ _)) c.marks.given c.output.given
+          (λ s g h. listed.1 s (alone g k) (rw one.ensures (ready_long _ _ _ _ _ _ i.2.long (ready-alone _ _ _ _ _ h k i.0 t)))),
+    )
+
+pub shape_of-marks : goal.shape_of-marks
+shape_of-marks c = c.cs.invariant.2.long
+
+pub shape_of-output : goal.shape_of-output
+shape_of-output c = c.cs.invariant.2.room
+
+pub returns : goal.returns
+returns c = (c.cs.invariant.1, all-listed _ _ _ _ _ _ c.cs.invariant.2 (λ s g h. none_left s g _ _ _ h _ _ _ _ _ c.cs-test.false))
