@@ -57,24 +57,22 @@ component-one-requires c =
 
 pub after-places-requires : goal.after-places-requires
 after-places-requires c =
-    let t = turn c.before in
-    omega (arith, next_near t.before.loop-c.inv.1 c.component-one.ensures.sums (small (placed t)) (below t) c.if-one.true)
+    omega (arith, next_near c.loop-c.inv.1 c.component-one.ensures.sums (small (placed c)) (below c) c.if-one.true)
 
 pub overflow_mul-to : goal.overflow_mul-to
 overflow_mul-to c = omega (arith, levels (goal.at.overflow_mul-to c).Then-one)
 
 pub overflow_add-to : goal.overflow_add-to
-overflow_add-to c = let t = turn c.before in omega (arith, levels (goal.at.overflow_add-to c).Then-one, t.before.loop-c.inv.2.near, below t)
+overflow_add-to c = let t = c in omega (arith, levels (goal.at.overflow_add-to c).Then-one, t.before.loop-c.inv.2.near, below t)
 
 pub loop-c-preserved : goal.loop-c-preserved
 loop-c-preserved c =
-    let t = turn c.before in
-    let a = (start t).args in
-    let l = t.before.loop-c in
+    let a = (start c).args in
+    let l = c.loop-c in
     let one = c.component-one in (
-      omega (arith, t.loop-c-test.taken),
-      rw (c.after-places.ensures, c.uint_max-max_res.ensures, c.joined-all.ensures) (seen_more l.inv.1 one.ensures.0 (small (placed t)) (below t) c.if-one.true),
-      kept_more a.e.now (placed t).of-places.result a.t4 a.kept.now l.inv.2 l.inv.1.at (levels (goal.at.loop-c-preserved c).Then-one) (one.ensures.1 c.if-one.true),
+      omega (arith, c.loop-c-test.taken),
+      rw (c.after-places.ensures, c.uint_max-max_res.ensures, c.joined-all.ensures) (seen_more l.inv.1 one.ensures.0 (small (placed c)) (below c) c.if-one.true),
+      kept_more a.e.now (placed c).of-places.result a.t4 a.kept.now l.inv.2 l.inv.1.at (levels (goal.at.loop-c-preserved c).Then-one) (one.ensures.1 c.if-one.true),
     )
 
 pub shape_of-kept-else-one : goal.shape_of-kept-else-one
@@ -82,11 +80,10 @@ shape_of-kept-else-one c = omega (arith, c.component-one.auto, kept_long c.loop-
 
 pub returns-else-one : goal.returns-else-one
 returns-else-one c =
-    let t = turn c.before in
-    let a = (start t).args in
-    let p = (placed t).of-places in record {
+    let a = (start c).args in
+    let p = (placed c).of-places in record {
       found = c.none-else-one.ensures
-          ∙ sym (survey_in a.e.now a.at a.check a.t4 p.result p.ensures ∙ seen_bad t.before.loop-c.inv.1 c.component-one.ensures.sums (omega arith) c.if-one.false);
+          ∙ sym (survey_in a.e.now a.at a.check a.t4 p.result p.ensures ∙ seen_bad c.loop-c.inv.1 c.component-one.ensures.sums (omega arith) c.if-one.false);
       keeps = keeps_none a.kept.now _ 0 _ _ (ap (λ (f : Findings). f.good) c.none-else-one.ensures);
     }
 

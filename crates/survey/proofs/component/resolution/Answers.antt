@@ -36,12 +36,11 @@ module _ (c : After-entry-entry) where
 fine-is : (c : After-sizes_right-right) → let a = c.args in entry_fine a.e.now a.at a.check a.axes a.level ≡ c.sizes_right-right.result
 unfolding entry_fine
 fine-is c =
-    let r = read c.before in
-    let a = (start r).args in
-    rw (rw r.four_at-stands.ensures at (ranged c.before))
+    let a = (start c).args in
+    rw (rw c.four_at-stands.ensures at (ranged c.before))
     (sym
     (c.sizes_right-right.ensures
-    ∙ ap (λ (f : Four). sizes_in f a.check c.entry-entry.result.width c.entry-entry.result.height) r.four_at-stands.ensures
+    ∙ ap (λ (f : Four). sizes_in f a.check c.entry-entry.result.width c.entry-entry.result.height) c.four_at-stands.ensures
     ∙ ap (λ (n : Entry). sizes_at a.e.now a.at a.check n.width n.height) (entry-is c.before)))
 
 pub returns-then-not-exponents_in_range : goal.returns-then-not-exponents_in_range

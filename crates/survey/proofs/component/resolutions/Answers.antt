@@ -56,8 +56,7 @@ shape_of-kept c = long (goal.at.shape_of-kept c).At-loop-r
 
 pub returns : goal.returns
 returns c =
-    let z = start c.before in
     let l = c.loop-r in
-    let end : l.r ≡ z.args.n = omega arith in
-    let stepped : Stepped z.args.axes = record { x_above = z.requires.2; x_fits = omega (arith, z.good); y_above = z.requires.3; y_fits = omega (arith, z.good) } in
+    let end : l.r ≡ c.args.n = omega arith in
+    let stepped : Stepped c.args.axes = record { x_above = c.requires.2; x_fits = omega (arith, c.good); y_above = c.requires.3; y_fits = omega (arith, c.good) } in
     record { sums = c.sums.ensures ∙ taken-all l.invariant.1 stepped end; keeps = λ g. rw end at l.invariant.2 }

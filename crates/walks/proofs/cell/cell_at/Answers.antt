@@ -12,10 +12,10 @@ row_of c s h =
     record { start = record { at = at; noted = c.row_at.ensures s at }; left = h.left; right = h.right }
 
 pub row_at-requires : goal.row_at-requires
-row_at-requires c κs = let p = c.requires in (p.0, record { play = p.1.play; top = p.1.top; bottom = p.1.bottom })
+row_at-requires c = let p = c.requires in (p.0, record { play = p.1.play; top = p.1.top; bottom = p.1.bottom })
 
 pub cell_from-requires : goal.cell_from-requires
-cell_from-requires c κs = let p = c.requires in (p.0, (_, row_of (goal.at.cell_from-requires c).After-row_at p.0 p.1))
+cell_from-requires c = let p = c.requires in (p.0, (_, row_of (goal.at.cell_from-requires c).After-row_at p.0 p.1))
 
 pub returns : goal.returns
 returns c s h = c.cell_from.ensures s _ (row_of (goal.at.returns c).After-row_at s h)

@@ -4,7 +4,6 @@ use mathlib.Core.Path.{◌≡◌, sym, ap, ◌∙◌}
 use mathlib.Core.Bool.{true}
 use Prim.Native.Nat.{◌≤◌, ◌<◌}
 use native.Mathlib.Omega.{arith}
-use Rattle.laws.specs.Cases.{not_true, not_false}
 use Rattle.walks.specs.declared.prepared.Along.{Along}
 use Rattle.walks.specs.Prepared.{along_x, hit_by}
 use Rattle.walks.specs.RowLaws.{noted-step, noted_none, noted_missed, noted-met, noted_from, noted-small}
@@ -19,21 +18,21 @@ steps : (c : Else-first-eq0) → (let a = c.args in 1 ≤ (along_x a.prep.now a.
 steps c = let w = c.requires in noted-step w.0 _ _ _ _ _ w.1.1.start (some c)
 
 meets : (c : Else-not-hits) → (let a = c.args in hit_by (along_x a.prep.now a.r a.c) a.x ≡ true)
-meets c = ap (λ (k : Along). hit_by k c.args.x) (sym c.along_x-columns.ensures) ∙ sym c.hits.ensures ∙ not_false _ c.if-not-hits.false
+meets c = ap (λ (k : Along). hit_by k c.args.x) (sym c.along_x-columns.ensures) ∙ sym c.hits.ensures ∙ c.if-not-hits.false
 
 pub returns-then-first-eq0 : goal.returns-then-first-eq0
 returns-then-first-eq0 c = λ s y h. noted_none s _ _ _ _ _ y h c.if-first-eq0.true
 
 pub hits-requires : goal.hits-requires
-hits-requires c κs = rw c.along_x-columns.ensures (steps (goal.at.hits-requires c).Else-first-eq0)
+hits-requires c = rw c.along_x-columns.ensures (steps (goal.at.hits-requires c).Else-first-eq0)
 
 pub returns-then-not-hits : goal.returns-then-not-hits
 returns-then-not-hits c =
-    let z = ap (λ (k : Along). hit_by k c.args.x) (sym c.along_x-columns.ensures) ∙ sym c.hits.ensures ∙ not_true _ c.if-not-hits.true in
+    let z = ap (λ (k : Along). hit_by k c.args.x) (sym c.along_x-columns.ensures) ∙ sym c.hits.ensures ∙ c.if-not-hits.true in
     λ s y h. noted_missed s _ _ _ _ _ y h (some (goal.at.returns-then-not-hits c).Else-first-eq0) z
 
 pub column-requires : goal.column-requires
-column-requires c κs = let w = c.requires in rw c.along_x-columns.ensures (steps (goal.at.column-requires c).Else-first-eq0, noted_from w.0 _ _ _ _ _ _ w.1.1 (some (goal.at.column-requires c).Else-first-eq0) (meets (goal.at.column-requires c).Else-not-hits))
+column-requires c = let w = c.requires in rw c.along_x-columns.ensures (steps (goal.at.column-requires c).Else-first-eq0, noted_from w.0 _ _ _ _ _ _ w.1.1 (some (goal.at.column-requires c).Else-first-eq0) (meets (goal.at.column-requires c).Else-not-hits))
 
 pub overflow_add-result : goal.overflow_add-result
 overflow_add-result c =

@@ -3,7 +3,6 @@ use mathlib.Core.Path.{◌≡◌, sym, ap, ◌∙◌}
 use mathlib.Core.Bool.{true}
 use Prim.Native.Nat.{◌≤◌, ◌<◌}
 use native.Mathlib.Omega.{arith}
-use Rattle.laws.specs.Cases.{not_true, not_false}
 use Rattle.walks.specs.declared.prepared.Along.{Along}
 use Rattle.walks.specs.Prepared.{width_in, along_y, hit_by}
 use Rattle.walks.specs.RowLaws.{row_none, row_missed, row-met, row-step, row_from, row-small}
@@ -18,22 +17,22 @@ steps : (c : Else-width-eq0) → (let a = c.args in 1 ≤ (along_y a.prep.now a.
 steps c = let a = c.args in let w = c.requires in row-step w.0 a.prep.now a.r a.c a.y w.1 (wide c)
 
 meets : (c : Else-not-hits) → (let a = c.args in hit_by (along_y a.prep.now a.r a.c) a.y ≡ true)
-meets c = ap (λ (k : Along). hit_by k c.args.y) (sym c.along_y-rows.ensures) ∙ sym c.hits.ensures ∙ not_false _ c.if-not-hits.false
+meets c = ap (λ (k : Along). hit_by k c.args.y) (sym c.along_y-rows.ensures) ∙ sym c.hits.ensures ∙ c.if-not-hits.false
 
 pub returns-then-width-eq0 : goal.returns-then-width-eq0
 returns-then-width-eq0 c = let a = c.args in λ s h. row_none s a.prep.now a.r a.c a.y h (sym c.width_at-width.ensures ∙ c.if-width-eq0.true)
 
 pub hits-requires : goal.hits-requires
-hits-requires c κs = rw c.along_y-rows.ensures (steps (goal.at.hits-requires c).Else-width-eq0)
+hits-requires c = rw c.along_y-rows.ensures (steps (goal.at.hits-requires c).Else-width-eq0)
 
 pub returns-then-not-hits : goal.returns-then-not-hits
 returns-then-not-hits c =
     let a = c.args in
-    let z = ap (λ (k : Along). hit_by k a.y) (sym c.along_y-rows.ensures) ∙ sym c.hits.ensures ∙ not_true _ c.if-not-hits.true in
+    let z = ap (λ (k : Along). hit_by k a.y) (sym c.along_y-rows.ensures) ∙ sym c.hits.ensures ∙ c.if-not-hits.true in
     λ s h. row_missed s a.prep.now a.r a.c a.y h (wide (goal.at.returns-then-not-hits c).Else-width-eq0) z
 
 pub column-requires : goal.column-requires
-column-requires c κs =
+column-requires c =
     let a = c.args in
     let w = c.requires in
     rw c.along_y-rows.ensures (steps (goal.at.column-requires c).Else-width-eq0, row_from w.0 a.prep.now a.r a.c a.y w.1 (wide (goal.at.column-requires c).Else-width-eq0) (meets (goal.at.column-requires c).Else-not-hits))

@@ -15,7 +15,7 @@ pub overflow_mul-e : goal.overflow_mul-e
 overflow_mul-e c = rw c.at-e.ensures (omega (arith, c.requires.1.few c.rs.r c.rs-test.true))
 
 pub put_number-requires : goal.put_number-requires
-put_number-requires c κs = let k = c.requires.1 in (omega (arith, k.levels), k.components)
+put_number-requires c = let k = c.requires.1 in (omega (arith, k.levels), k.components)
 
 pub rs-preserved : goal.rs-preserved
 rs-preserved c =

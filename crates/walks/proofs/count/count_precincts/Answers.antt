@@ -19,7 +19,7 @@ pub bounds-st-c : goal.bounds-st-c
 bounds-st-c c = omega (arith, c.requires.1.most)
 
 pub count_component-requires : goal.count_component-requires
-count_component-requires c κs = let i = c.cs in (i.invariant.2.long, rw i.invariant.1 (c.requires.1.each i.c c.cs-test.true))
+count_component-requires c = let i = c.cs in (i.invariant.2.long, rw i.invariant.1 (c.requires.1.each i.c c.cs-test.true))
 
 pub overflow_cast-base : goal.overflow_cast-base
 overflow_cast-base c = let i = c.cs in omega (arith, (c.requires.1.each i.c c.cs-test.true).levels)
@@ -33,4 +33,4 @@ cs-preserved c =
     (omega arith, rw i.invariant.1 (sym (entries_more _ i.c)), more_all_written _ _ _ _ _ i.c (omega (arith, c.requires.1.most)) i.invariant.2 (rw i.invariant.1 at c.count_component.ensures))
 
 pub returns : goal.returns
-returns c = let i = c.cs in let e : i.c ≡ c.args.t3.components = omega arith in rw e at i.invariant.2
+returns c = let i = c.cs in let e : i.c ≡ c.args.st.components = omega arith in rw e at i.invariant.2

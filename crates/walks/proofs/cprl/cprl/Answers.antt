@@ -1,7 +1,6 @@
 -- `cprl` meets its contract. Each of the five loops keeps one thing, for every sheet and range that the walk is ready for (`Kept`): nothing is found yet, and
 -- what is left at this loop answers as what was to be searched at entry. One component alone is what PCRL has of it (*Cprl.one-left*), so a turn is one law of
 -- specs/Cprl, Pcrl or Layers: LOOP-holds is an `in` law, LOOP-again the `out` law of the inner loop. Assumes nothing.
-use Rattle.std.proofs.Common.{rules}
 use mathlib.Core.Path.{◌≡◌}
 use mathlib.Core.Bool.{Bool, true, false}
 use mathlib.Core.List.{◌∷◌}
@@ -25,7 +24,7 @@ use Rattle.walks.specs.Pcrl.{left_r, after_x, in_y, out_y, out_x, column_is, row
 use Rattle.walks.specs.Cprl.{on_from, alone, alone_by, only, none_left, ready-alone, one-left, in_x, in_r, out_r}
 use Rattle.walks.proofs.cprl.cprl.Invariants.{Kept}
 use Rattle.walks.proofs.cprl.cprl.Goals as goal
-use Rattle.walks.proofs.cprl.cprl.Goals.{After-cell_at, After-is_free, After-next_column-x, After-next_row-y, In-ls, In-rs, In-search, Need-cell-at-requires, Need-enum-known-k, Need-index-requires, Need-is-free-requires, Need-next-column-requires, Need-next-row-requires, Need-overflow-add-next-column, Need-overflow-add-next-row, Need-search-init, Need-search-preserved, Need-search-smaller}
+use Rattle.walks.proofs.cprl.cprl.Goals.{After-cell_at, After-is_free, After-next_column-x, After-next_row-y, In-ls, In-rs, In-search}
 
 -- the walk is ready for a sheet and a range
 abbrev ReadyIn : In-search → Sheet → Range → Type 0
@@ -41,10 +40,10 @@ stands : (c : In-rs)
     → Stands c.args.w c.rs.r c.search.c c.xs.x c.ys.y
 stands c =
     record {
-      res-from = c.rs.invariant.0;
-      res-to = c.rs-test.true;
-      comp-from = c.search.invariant.0;
-      comp-to = c.search-test.true;
+      res_from = c.rs.invariant.0;
+      res_to = c.rs-test.true;
+      comp_from = c.search.invariant.0;
+      comp_to = c.search-test.true;
       left = c.xs.invariant.0;
       right = c.xs-test.true;
       top = c.ys.invariant.0;
@@ -53,76 +52,71 @@ stands c =
 
 -- what the cell answers, for every sheet that the walk is ready for
 cell-is : (c : After-cell_at) (s : Sheet) (g : Range)
-    → (let d = c.before in
-    ReadyIn (at_c d) s g → c.Cell-at.result ≡ cell_of s d.before.rs.r (at_c d).before.search.c (at_x d).before.xs.x (at_y d).before.ys.y)
+    → (
+    ReadyIn c s g → c.Cell-at.result ≡ cell_of s c.rs.r c.search.c c.xs.x c.ys.y)
 cell-is c s g h = c.Cell-at.ensures s (at-point s g _ _ _ h _ _ _ _ (stands c.before))
 
 -- the cell is first of what is left
 cell-first : (c : After-cell_at)
-    → (let d = c.before in
-    let a = (start (at_c d)).args in
-    let r = d.before.rs.r in
-    let i = (at_c d).before.search.c in
-    let x = (at_x d).before.xs.x in
-    let y = (at_y d).before.ys.y in
-    Kept a.marks.now a.prep.now a.w a.c-from a.y_from a.x_from a.r-from a.l-from d.before.rs.found
-    (cell_from r i x y d.before.rs.l-at then only i (left_r (alone_by a.w i) y x i (r + 1) 0) then only i (after_x (alone_by a.w i) y x) then on_from a.w (i + 1)))
+    → (
+    let a = c.args in
+    let r = c.rs.r in
+    let i = c.search.c in
+    let x = c.xs.x in
+    let y = c.ys.y in
+    Kept a.marks.now a.prep.now a.w a.c-from a.y_from a.x_from a.r-from a.l-from c.rs.found
+    (cell_from r i x y c.rs.l-at then only i (left_r (alone_by a.w i) y x i (r + 1) 0) then only i (after_x (alone_by a.w i) y x) then on_from a.w (i + 1)))
 cell-first c =
-    let d = c.before in
-    parts _ _ _ _ _ _ d.before.rs.invariant.1 _ _ (λ s g h. in_r s g _ _ _ h _ (at_c d).before.search.invariant.0 (at_c d).search-test.true _ _ _ _ d.rs-test.true)
+    parts _ _ _ _ _ _ c.rs.invariant.1 _ _ (λ s g h. in_r s g _ _ _ h _ c.search.invariant.0 c.search-test.true _ _ _ _ c.rs-test.true)
 
 -- the precinct that is met is one of the sheet's
 layered : (c : In-ls) (s : Sheet) (g : Range)
-    → (let d = at-r c in
-    let a = (start (at_c d)).args in
-    ReadyIn (at_c d) s g
-    → Layered s g a.w a.marks.now d.before.rs.r (at_c d).before.search.c (at_x d).before.xs.x (at_y d).before.ys.y c.k.given.0.0)
+    → (let a = (start (at_c c)).args in
+    ReadyIn (at_c c) s g
+    → Layered s g a.w a.marks.now c.rs.r (at_c c).before.search.c (at_x c).before.xs.x (at_y c).before.ys.y c.k.given.0.0)
 layered c s g h =
     cell-layered s g _ _ _ h _ _ _ _ (stands c) _ (cell-is c.before.before.before.before.before s g h) _ c.k.given.1
 
 -- a layer is the next, and what is read of its mark is what the sheet's index finds
 read_here : (c : After-is_free) (s : Sheet) (g : Range)
-    → (let d = at-r c.before in
-    let r = d.before.rs.r in
-    let i = (at_c d).before.search.c in
-    let x = (at_x d).before.xs.x in
-    let y = (at_y d).before.ys.y in
+    → (let r = c.rs.r in
+    let i = (at_c c).before.search.c in
+    let x = (at_x c).before.xs.x in
+    let y = (at_y c).before.ys.y in
     let k = c.k.given.0.0 in
     let l = c.ls.l in
-    ReadyIn (at_c d) s g → (t : Bool) → c.is_free.result ≡ t
+    ReadyIn (at_c c) s g → (t : Bool) → c.is_free.result ≡ t
     → (layers_from r i x y k l s g ≡ packet_of r i x y k l ∷ layers_from r i x y k (l + 1) s g)
-    × (free_at (start (at_c d)).args.w.viewer (start (at_c d)).args.marks.now (index_of s.st (packet_of r i x y k l)) ≡ t))
+    × (free_at (start (at_c c)).args.w.viewer (start (at_c c)).args.marks.now (index_of s.st (packet_of r i x y k l)) ≡ t))
 read_here c s g h t e =
     layer-read s g _ _ _ _ _ _ _ (layered c.before.before s g h) _ c.ls-test.true _ _ _ _ c.index-i.ensures c.is_free.ensures e
 
 -- the next column and row, for every such sheet; and they grow
 column-here : (c : After-next_column-x) (s : Sheet) (g : Range)
-    → (let d = c.before in
+    → (
     let x = c.xs.x in
     let y = c.ys.y in
-    ReadyIn d s g → (c.next_column-x.result ≡ next_x s (alone g d.before.search.c) everything (point_of 0 0 0 y) x) × (x < c.next_column-x.result))
+    ReadyIn c.before.before.before.before.before.before.before s g → (c.next_column-x.result ≡ next_x s (alone g c.search.c) everything (point_of 0 0 0 y) x) × (x < c.next_column-x.result))
 column-here c s g h =
-    let d = c.before in
-    let k = alone-here d.before.before s g h in
-    column_is s _ _ _ _ k _ _ _ (c.next_column-x.ensures s (at_row s _ _ _ _ k _ d.before.ys.invariant.0 d.ys-test.true))
+    let k = alone-here c.before.before.before.before.before.before.before.before.before s g h in
+    column_is s _ _ _ _ k _ _ _ (c.next_column-x.ensures s (at_row s _ _ _ _ k _ c.ys.invariant.0 c.ys-test.true))
 
 column-up : (c : After-next_column-x) → c.xs.x < c.next_column-x.result
-column-up c = let p = c.requires.0 in (column-here c p.0 p.1.0 p.1.1).1
+column-up c = let p = c.requires.some_ready in (column-here c p.0 p.1.0 p.1.1).1
 
 row_here : (c : After-next_row-y) (s : Sheet) (g : Range)
-    → (let d = c.before in
+    → (
     let y = c.ys.y in
-    ReadyIn d s g → (c.next_row-y.result ≡ next_y s (alone g d.before.search.c) everything origin y) × (y < c.next_row-y.result))
+    ReadyIn c.before.before.before.before.before s g → (c.next_row-y.result ≡ next_y s (alone g c.search.c) everything origin y) × (y < c.next_row-y.result))
 row_here c s g h =
     let k = alone-here c.before.before.before.before.before s g h in
     row_is s _ _ _ _ k _ _ (c.next_row-y.ensures s (at_row s _ _ _ _ k _ c.ys.invariant.0 c.ys-test.true).play)
 
 row_up : (c : After-next_row-y) → c.ys.y < c.next_row-y.result
-row_up c = let p = c.requires.0 in (row_here c p.0 p.1.0 p.1.1).1
+row_up c = let p = c.requires.some_ready in (row_here c p.0 p.1.0 p.1.1).1
 
-search-holds :
-    Need-search-init
-search-holds c = let p = c.requires.1 in (p.0, p.1, p.2, p.3, starts _ _ _ _)
+pub search-init : goal.search-init
+search-init c = let p = c.requires.compno0_le_c_from in (p.0, p.1, p.2, p.3, starts _ _ _ _)
 
 pub ys-init : goal.ys-init
 ys-init c =
@@ -137,30 +131,18 @@ xs-init c =
 pub rs-init : goal.rs-init
 rs-init c =
     let k = c.xs.invariant in
-    let d = c.before in
-    let e = c.before in
-    (k.1, parts _ _ _ _ _ _ k.2 _ _ (λ s g h. in_x s g _ _ _ h _ e.before.search.invariant.0 e.search-test.true _ _ _ _ d.before.ys.invariant.0 d.ys-test.true k.0 c.xs-test.true))
+    (k.1, parts _ _ _ _ _ _ k.2 _ _ (λ s g h. in_x s g _ _ _ h _ c.search.invariant.0 c.search-test.true _ _ _ _ c.ys.invariant.0 c.ys-test.true k.0 c.xs-test.true))
 
-cell-at-requires :
-    Need-cell-at-requires
-cell-at-requires c κs = let p = c.requires.0 in (p.0, at-point p.0 p.1.0 _ _ _ p.1.1 _ _ _ _ (stands c))
-
-enum-known-k :
-    Need-enum-known-k
-enum-known-k c = search rules
+pub cell_at-requires : goal.cell_at-requires
+cell_at-requires c = let p = c.requires.some_ready in (p.0, at-point p.0 p.1.0 _ _ _ p.1.1 _ _ _ _ (stands (goal.at.cell_at-requires c).In-rs))
 
 pub ls-init : goal.ls-init
 ls-init c =
     turns _ _ _ _ _ _ (cell-first (goal.at.ls-init c).After-cell_at) _
     (λ s g h. cell-left s g _ _ _ h _ _ _ _ (stands (goal.at.ls-init c).In-rs) _ (cell-is (goal.at.ls-init c).After-cell_at s g h) _ _ c.k.given.1)
 
-index-requires :
-    Need-index-requires
-index-requires c κs = let p = c.requires.0 in layer-fits _ _ _ _ _ _ _ _ _ (layered c p.0 p.1.0 p.1.1) _ c.ls-test.true
-
-is-free-requires :
-    Need-is-free-requires
-is-free-requires c κs = search rules
+pub index-i-requires : goal.index-i-requires
+index-i-requires c = let p = c.requires.some_ready in layer-fits _ _ _ _ _ _ _ _ _ (layered (goal.at.index-i-requires c).In-ls p.0 p.1.0 p.1.1) _ c.ls-test.true
 
 pub ls-preserved : goal.ls-preserved
 ls-preserved c = passes _ _ _ _ _ _ c.ls.invariant _ _ (λ s g h. read_here (goal.at.ls-preserved c).After-is_free s g h false c.if-is_free.false)
@@ -177,39 +159,26 @@ rs-preserved c = (
       c.match-cell_at.branch,
 )
 
-add-next-column :
-    Need-overflow-add-next-column
-add-next-column c = search rules
-
-next-column-requires :
-    Need-next-column-requires
-next-column-requires c κs =
-    let d = c.before in
-    let p = (start d.before.before).pre.0 in
-    (c.xs-test.true, (p.0, at_row _ _ _ _ _ (alone-here d.before.before p.0 p.1.0 p.1.1) _ d.before.ys.invariant.0 d.ys-test.true))
+pub next_column-x-requires : goal.next_column-x-requires
+next_column-x-requires c =
+    let p = c.requires.some_ready in
+    (c.xs-test.true, (p.0, at_row _ _ _ _ _ (alone-here (goal.at.next_column-x-requires c).In-search p.0 p.1.0 p.1.1) _ c.ys.invariant.0 c.ys-test.true))
 
 pub xs-smaller : goal.xs-smaller
 xs-smaller c = omega (arith, column-up (goal.at.xs-smaller c).After-next_column-x, c.xs-test.true)
 
 pub xs-preserved : goal.xs-preserved
-xs-preserved c =
-    let d = c.before in (
-      omega (arith, column-up (goal.at.xs-preserved c).After-next_column-x, c.xs.invariant.0),
-      omega arith,
-      turns _ _ _ _ _ _ (leaves _ _ _ _ _ _ c.rs.invariant.1 (λ s g h. out_r s g _ _ _ h _ d.before.search.invariant.0 d.search-test.true _ _ _ _ c.rs-test.false)) _
-          (λ s g h. rw (column-here (goal.at.xs-preserved c).After-next_column-x s g h).0),
-    )
+xs-preserved c = (
+  omega (arith, column-up (goal.at.xs-preserved c).After-next_column-x, c.xs.invariant.0),
+  omega arith,
+  turns _ _ _ _ _ _ (leaves _ _ _ _ _ _ c.rs.invariant.1 (λ s g h. out_r s g _ _ _ h _ c.search.invariant.0 c.search-test.true _ _ _ _ c.rs-test.false)) _
+      (λ s g h. rw (column-here (goal.at.xs-preserved c).After-next_column-x s g h).0),
+)
 
-add-next-row :
-    Need-overflow-add-next-row
-add-next-row c = search rules
-
-next-row-requires :
-    Need-next-row-requires
-next-row-requires c κs =
-    let d = c.before in
-    let p = (start d.before.before).pre.0 in
-    (d.ys-test.true, (p.0, (at_row _ _ _ _ _ (alone-here d.before.before p.0 p.1.0 p.1.1) _ d.before.ys.invariant.0 d.ys-test.true).play))
+pub next_row-y-requires : goal.next_row-y-requires
+next_row-y-requires c =
+    let p = c.requires.some_ready in
+    (c.ys-test.true, (p.0, (at_row _ _ _ _ _ (alone-here (goal.at.next_row-y-requires c).In-search p.0 p.1.0 p.1.1) _ c.ys.invariant.0 c.ys-test.true).play))
 
 pub ys-smaller : goal.ys-smaller
 ys-smaller c = omega (arith, row_up (goal.at.ys-smaller c).After-next_row-y, c.ys-test.true)
@@ -223,18 +192,13 @@ ys-preserved c = (
       (λ s g h. rw (row_here (goal.at.ys-preserved c).After-next_row-y s g h).0 (out_x s _ _ _ _ (alone-here (goal.at.ys-preserved c).In-search s g h) _ _ _ _ _ c.xs-test.false)),
 )
 
-search-less :
-    Need-search-smaller
-search-less c = search rules
-
-search-again :
-    Need-search-preserved
-search-again c = (
+pub search-preserved : goal.search-preserved
+search-preserved c = (
   omega (arith, c.search.invariant.0),
   omega arith,
   omega arith,
   omega arith,
-  leaves _ _ _ _ _ _ c.ys.invariant.3 (λ s g h. out_y s _ _ _ _ (alone-here c.before.before s g h) _ _ _ _ _ c.ys-test.false),
+  leaves _ _ _ _ _ _ c.ys.invariant.3 (λ s g h. out_y s _ _ _ _ (alone-here (goal.at.search-preserved c).In-search s g h) _ _ _ _ _ c.ys-test.false),
 )
 
 -- left by the outermost test: nothing is left

@@ -13,7 +13,7 @@ use Rattle.walks.proofs.level.list_level.Goals.{In-cs, In-ks}
 
 -- the numbers of the loops stand inside the ranges
 stands : (c : In-cs) → (let a = c.args in Stands a.w a.l a.r c.cs.c)
-stands c = record { level = c.requires.0; comp-from = c.cs.invariant.0; comp-to = c.cs-test.true }
+stands c = record { level = c.requires.0; comp_from = c.cs.invariant.0; comp_to = c.cs-test.true }
 
 -- from the whole to what is left where the inner loop stands
 at-ks : (c : In-ks)
@@ -26,19 +26,18 @@ pub cs-init : goal.cs-init
 cs-init c = (omega arith, first-listed _ _ _ _ _ _ (λ s g h. refl))
 
 pub number_at-precincts-requires : goal.number_at-precincts-requires
-number_at-precincts-requires c κs = let p = c.requires.1 in held p.0 p.1.0 _ _ _ p.1.1 _ _ _ (stands (goal.at.number_at-precincts-requires c).In-cs)
+number_at-precincts-requires c = let p = c.requires.1 in held p.0 p.1.0 _ _ _ p.1.1 _ _ _ (stands (goal.at.number_at-precincts-requires c).In-cs)
 
 pub ks-init : goal.ks-init
 ks-init c = first-listed _ _ _ _ _ _ (λ s g h. refl)
 
 pub list_packet-count-requires : goal.list_packet-count-requires
-list_packet-count-requires c κs =
-    let z = c.before in
-    let p = z.requires.1 in
-    let t = at-ks z in
-    let s = stands z.before in
-    let e = z.number_at-precincts.ensures in
-    let h = z.ks-test.true in (
+list_packet-count-requires c =
+    let p = c.requires.1 in
+    let t = at-ks (goal.at.list_packet-count-requires c).In-ks in
+    let s = stands (goal.at.list_packet-count-requires c).In-cs in
+    let e = c.number_at-precincts.ensures in
+    let h = c.ks-test.true in (
       mark-fits p.0 p.1.0 _ _ _ p.1.1 _ _ _ s _ e _ h,
       rw t.long (mark-there p.0 p.1.0 _ _ _ p.1.1 _ _ _ s _ e _ h),
       listed-few _ _ _ _ _ _ t p.0 p.1.0 p.1.1 p.1.2,
@@ -46,11 +45,10 @@ list_packet-count-requires c κs =
 
 pub ks-preserved : goal.ks-preserved
 ks-preserved c =
-    let z = c.before in
-    let s' = stands z.before in
-    let e = z.number_at-precincts.ensures in
-    let k = z.ks-test.true in
-    one-listed _ _ _ _ _ _ z.ks.invariant _ _ _ (λ s g h. (in_k s g _ _ _ _ (below s g _ _ _ h _ _ _ s' _ e _ k), mark_is s g _ _ _ h _ _ _ s' _ e _ k))
+    let s' = stands (goal.at.ks-preserved c).In-cs in
+    let e = c.number_at-precincts.ensures in
+    let k = c.ks-test.true in
+    one-listed _ _ _ _ _ _ c.ks.invariant _ _ _ (λ s g h. (in_k s g _ _ _ _ (below s g _ _ _ h _ _ _ s' _ e _ k), mark_is s g _ _ _ h _ _ _ s' _ e _ k))
     (search rules) (search rules) c.list_packet-count.ensures
 
 pub cs-preserved : goal.cs-preserved

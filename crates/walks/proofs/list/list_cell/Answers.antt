@@ -14,10 +14,10 @@ cell-is : (c : After-cell_from) (s : Sheet) (g : Range)
 cell-is c s g d = c.cell_from.ensures s _ d.point
 
 pub cell_from-requires : goal.cell_from-requires
-cell_from-requires c κs = let p = c.requires in (p.0, (_, p.1.1.point))
+cell_from-requires c = let p = c.requires in (p.0, (_, p.1.1.point))
 
 pub list_layers-requires : goal.list_layers-requires
-list_layers-requires c κs =
+list_layers-requires c =
     let p = c.requires in
     let d = p.1.1 in
     let cell = c.cell_from.result in
@@ -35,4 +35,4 @@ returns-in-At c s g d =
 
 pub returns-in-Nothing : goal.returns-in-Nothing
 returns-in-Nothing c s g d =
-    sym (ap (total_of _ _ _ _) (cell-passed s g _ _ _ d.ready _ _ _ _ d.stands c.cell_from.result (cell-is (goal.at.returns-in-Nothing c).After-cell_from s g d) _ c.enum_told.given.1) ∙ total_none _ _ _ _)
+    sym (ap (total_of _ _ _ _) (cell-passed s g _ _ _ d.ready _ _ _ _ d.stands c.cell_from.result (cell-is (goal.at.returns-in-Nothing c).After-cell_from s g d) _ c.in-Nothing.is) ∙ total_none _ _ _ _)

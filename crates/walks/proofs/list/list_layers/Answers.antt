@@ -12,7 +12,7 @@ pub ls-init : goal.ls-init
 ls-init c = first-listed _ _ _ _ _ _ (λ s g h. refl)
 
 pub list_packet-count-requires : goal.list_packet-count-requires
-list_packet-count-requires c κs =
+list_packet-count-requires c =
     let p = c.requires in
     let d = p.1.1 in
     let t = c.ls.invariant in
@@ -22,9 +22,8 @@ list_packet-count-requires c κs =
 
 pub ls-preserved : goal.ls-preserved
 ls-preserved c =
-    let t = turned c in
-    let h = t.ls-test.taken in
-    one-listed _ _ _ _ _ _ t.before.ls.inv _ _ _ (λ s g d. (in_l s g _ _ _ _ _ _ (omega (arith, h, d.ranged.layno1)), layer_is s g _ _ _ _ _ _ _ d _ h)) (search rules) (search rules)
+    let h = c.ls-test.taken in
+    one-listed _ _ _ _ _ _ c.ls.inv _ _ _ (λ s g d. (in_l s g _ _ _ _ _ _ (omega (arith, h, d.ranged.layno1)), layer_is s g _ _ _ _ _ _ _ d _ h)) (search rules) (search rules)
     (rw c.in_layer.ensures at c.list_packet-count.ensures)
 
 pub shape_of-marks : goal.shape_of-marks

@@ -8,11 +8,10 @@ use Rattle.walks.proofs.list.list_packet.Goals as goal
 
 pub returns-then-is_free : goal.returns-then-is_free
 returns-then-is_free c =
-    let z = c.before in
-    let a = z.args in
-    let i = z.index-i.ensures in
+    let a = c.args in
+    let i = c.index-i.ensures in
     (λ j. record { count = a.n + 1; marks = (c.set.ensures ∙ set-marks 0 a.marks.now _ refl ∙ ap (mark_at 0 a.marks.now) i) j; output = c.put_packet.ensures j })
-    ∙ listed-free a.w a.p a.marks.now a.output.now a.n (ap (free_at 0 a.marks.now) (sym i) ∙ sym z.is_free.ensures ∙ z.if-is_free.true)
+    ∙ listed-free a.w a.p a.marks.now a.output.now a.n (ap (free_at 0 a.marks.now) (sym i) ∙ sym c.is_free.ensures ∙ c.if-is_free.true)
 
 pub returns : goal.returns
 returns c =

@@ -13,7 +13,7 @@ use Rattle.walks.proofs.list_lrcp.list_lrcp.Goals.{In-rs}
 
 -- the layer and the resolution at which the loops stand
 here : (c : In-rs) → InLevel c.args.w c.ls.l c.rs.r
-here c = record { layer = c.ls-test.true; res-from = c.rs.invariant.0; res-to = c.rs-test.true }
+here c = record { layer = c.ls-test.true; res_from = c.rs.invariant.0; res_to = c.rs-test.true }
 
 -- from the whole to what is left there
 at-rs : (c : In-rs)
@@ -29,19 +29,17 @@ pub rs-init : goal.rs-init
 rs-init c = (omega arith, first-listed _ _ _ _ _ _ (λ s g h. refl))
 
 pub list_level-count-requires : goal.list_level-count-requires
-list_level-count-requires c κs =
-    let z = c.before in
-    let p = z.requires in
+list_level-count-requires c =
+    let p = c.requires in
     let h = p.1.1 in
-    let t = at-rs z in
-    (here z, (p.0, (p.1.0, counted_long _ _ _ _ _ _ t.long h, few_part _ _ _ _ _ _ t _ _ _ _ h (in_r _ _ _ _ _ h _ _ _ _ z.rs-test.true) p.1.2)))
+    let t = at-rs (goal.at.list_level-count-requires c).In-rs in
+    (here (goal.at.list_level-count-requires c).In-rs, (p.0, (p.1.0, counted_long _ _ _ _ _ _ t.long h, few_part _ _ _ _ _ _ t _ _ _ _ h (in_r _ _ _ _ _ h _ _ _ _ c.rs-test.true) p.1.2)))
 
 pub rs-preserved : goal.rs-preserved
 rs-preserved c =
-    let z = c.before in
-    let i = z.rs.invariant.1 in (
-      omega (arith, z.rs.invariant.0),
-      part_listed _ _ _ _ _ _ i (level _ _ _ _) _ (λ s g h. in_r s g _ _ _ h _ _ _ _ z.rs-test.true) c.marks.given c.output.given
+    let i = c.rs.invariant.1 in (
+      omega (arith, c.rs.invariant.0),
+      part_listed _ _ _ _ _ _ i (level _ _ _ _) _ (λ s g h. in_r s g _ _ _ h _ _ _ _ c.rs-test.true) c.marks.given c.output.given
           (λ s g h. c.list_level-count.ensures s g (counted_long s g _ _ _ _ i.long h)),
     )
 

@@ -31,7 +31,7 @@ below-is c s g h = row_is s g _ _ _ h _ _ (c.fill_row-below.ensures.1 s (row_her
 
 -- the point at which the loops stand
 pointed : (c : In-xs) (s : Sheet) (g : Range)
-    → (let a = c.args in Ready s g a.prep.now a.w a.marks.now → Pointed s g a.prep.now c.fill_row-below.new.0 a.w a.marks.now c.xs.x c.ys.y)
+    → (let a = c.args in Ready s g a.prep.now a.w a.marks.now → Pointed s g a.prep.now c.fill_row-below.new.row a.w a.marks.now c.xs.x c.ys.y)
 pointed c s g h =
     let r = row_here c.before.before.before.before s g h in
     record {
@@ -55,19 +55,19 @@ at-xs c =
 
 -- .. with the marks that are left
 pointed-now : (c : In-xs) (s : Sheet) (g : Range)
-    → (let a = c.args in Ready s g a.prep.now a.w a.marks.now → Pointed s g a.prep.now c.fill_row-below.new.0 a.w c.xs.marks c.xs.x c.ys.y)
+    → (let a = c.args in Ready s g a.prep.now a.w a.marks.now → Pointed s g a.prep.now c.fill_row-below.new.row a.w c.xs.marks c.xs.x c.ys.y)
 pointed-now c s g h = pointed_long s g _ _ _ _ _ _ (pointed c s g h) _ (at-xs c).long
 
 -- the next column; and it is further to the right
 next-is : (c : After-list_point-passed) (s : Sheet) (g : Range)
-    → (let z = c.before in let a = (entered z).args in let x = z.xs.x in Ready s g a.prep.now a.w a.marks.now → (c.list_point-passed.result.next ≡ next_x s g everything (point_of 0 0 0 z.ys.y) x) × (x < c.list_point-passed.result.next))
+    → (let a = c.args in let x = c.xs.x in Ready s g a.prep.now a.w a.marks.now → (c.list_point-passed.result.next ≡ next_x s g everything (point_of 0 0 0 c.ys.y) x) × (x < c.list_point-passed.result.next))
 next-is c s g h = column_is s g _ _ _ h _ _ _ (c.list_point-passed.ensures s g (pointed-now c.before.before.before.before s g h)).1
 
 pub ys-init : goal.ys-init
 ys-init c = (omega arith, c.requires.0, first-listed _ _ _ _ _ _ (λ s g h. refl))
 
 pub fill_row-below-requires : goal.fill_row-below-requires
-fill_row-below-requires c κs =
+fill_row-below-requires c =
     let p = c.requires.1 in
     (c.ys.invariant.1, c.ys-test.true, (p.0, row_here (goal.at.fill_row-below-requires c).In-ys p.0 p.1.0 p.1.1))
 
@@ -75,53 +75,47 @@ pub xs-init : goal.xs-init
 xs-init c = (omega arith, first-listed _ _ _ _ _ _ (λ s g h. refl))
 
 pub list_point-passed-requires : goal.list_point-passed-requires
-list_point-passed-requires c κs =
-    let z = c.before in
-    let p = (entered z).requires.1 in
+list_point-passed-requires c =
+    let p = c.requires.1 in
     let h = p.1.1 in
-    let t = at-xs z in (
+    let t = at-xs (goal.at.list_point-passed-requires c).In-xs in (
       p.0,
       (
         p.1.0,
-        pointed-now z _ _ h,
-        few_part _ _ _ _ _ _ t _ _ _ _ h (in_x _ _ _ _ _ h _ _ _ _ _ z.ys.invariant.0 z.ys-test.true z.xs.invariant.0 z.xs-test.true) p.1.2,
+        pointed-now (goal.at.list_point-passed-requires c).In-xs _ _ h,
+        few_part _ _ _ _ _ _ t _ _ _ _ h (in_x _ _ _ _ _ h _ _ _ _ _ c.ys.invariant.0 c.ys-test.true c.xs.invariant.0 c.xs-test.true) p.1.2,
       ),
     )
 
 pub xs-smaller : goal.xs-smaller
 xs-smaller c =
-    let z = turned c in
-    let p = (entered z).pre.1 in
-    omega (arith, z.xs-test.taken, (next-is (goal.at.xs-smaller c).After-list_point-passed p.0 p.1.0 p.1.1).1)
+    let p = (entered c).pre.1 in
+    omega (arith, c.xs-test.taken, (next-is (goal.at.xs-smaller c).After-list_point-passed p.0 p.1.0 p.1.1).1)
 
 pub xs-preserved : goal.xs-preserved
 xs-preserved c =
-    let z = c.before in
-    let a = z.before in
-    let p = a.requires.1 in
-    let i = z.xs.invariant in
-    let o = z.ys.invariant in
-    let from : (s : Sheet) (g : Range) → (Ready s g a.args.prep.now a.args.w z.ys.marks → Ready s g a.args.prep.now a.args.w a.args.marks.now)
+    let p = c.requires.1 in
+    let i = c.xs.invariant in
+    let o = c.ys.invariant in
+    let from : (s : Sheet) (g : Range) → (Ready s g c.args.prep.now c.args.w c.ys.marks → Ready s g c.args.prep.now c.args.w c.args.marks.now)
     = λ s g h. ready_long s g _ _ _ _ (sym o.2.long) h in (
       omega (arith, i.0, (next-is (goal.at.xs-preserved c).After-list_point-passed p.0 p.1.0 p.1.1).1),
       part_listed _ _ _ _ _ _ i.1 (point _ _ _ _ _) _
-          (λ s g h. rw (next-is (goal.at.xs-preserved c).After-list_point-passed s g (from s g h)).0 (in_x s g _ _ _ h _ _ _ _ _ o.0 z.ys-test.true i.0 z.xs-test.true))
+          (λ s g h. rw (next-is (goal.at.xs-preserved c).After-list_point-passed s g (from s g h)).0 (in_x s g _ _ _ h _ _ _ _ _ o.0 c.ys-test.true i.0 c.xs-test.true))
           c.marks.given c.output.given
-          (λ s g h. (c.list_point-passed.ensures s g (pointed-now z s g (from s g h))).0),
+          (λ s g h. (c.list_point-passed.ensures s g (pointed-now (goal.at.xs-preserved c).In-xs s g (from s g h))).0),
     )
 
 pub ys-smaller : goal.ys-smaller
 ys-smaller c =
-    let z = c.before in
-    let p = z.requires.1 in
-    omega (arith, z.ys-test.true, (below-is (goal.at.ys-smaller c).After-fill_row-below p.0 p.1.0 p.1.1).1)
+    let p = c.requires.1 in
+    omega (arith, c.ys-test.true, (below-is (goal.at.ys-smaller c).After-fill_row-below p.0 p.1.0 p.1.1).1)
 
 pub ys-preserved : goal.ys-preserved
 ys-preserved c =
-    let z = c.before in
-    let p = z.requires.1 in
-    let o = z.ys.invariant in
-    let t = goes_on _ _ _ _ _ _ o.2 _ (λ s g h. in_y s g _ _ _ h _ _ _ _ _ o.0 z.ys-test.true) in (
+    let p = c.requires.1 in
+    let o = c.ys.invariant in
+    let t = goes_on _ _ _ _ _ _ o.2 _ (λ s g h. in_y s g _ _ _ h _ _ _ _ _ o.0 c.ys-test.true) in (
       omega (arith, o.0, (below-is (goal.at.ys-preserved c).After-fill_row-below p.0 p.1.0 p.1.1).1),
       c.fill_row-below.ensures.0,
       goes_on _ _ _ _ _ _ (then_listed _ _ _ _ _ t c.xs.invariant.1 (λ s g h. ready_long s g _ _ _ _ t.long h)) _

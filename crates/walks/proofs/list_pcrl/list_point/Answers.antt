@@ -11,10 +11,7 @@ use Rattle.walks.specs.Layers.{pointed_long, pointed-cell}
 use Rattle.walks.specs.Pcrl.{point, left_r, in_c, out_c, in_r, out_r}
 use Rattle.walks.proofs.list_pcrl.list_point.Invariants.{Kept}
 use Rattle.walks.proofs.list_pcrl.list_point.Goals as goal
-use Rattle.walks.proofs.list_pcrl.list_point.Goals.{After-slice_known-in-rs-2-1, After-struct_known-1, In-rs}
-
-abbrev turned : After-slice_known-in-rs-2-1 → In-rs
-turned c = c.before
+use Rattle.walks.proofs.list_pcrl.list_point.Goals.{After-struct_known-1, In-rs}
 
 -- the point is in the tile
 before-end : (c : After-struct_known-1) → c.args.x < c.args.w.tx1
@@ -40,40 +37,37 @@ pub rs-init : goal.rs-init
 rs-init c = (omega arith, omega arith, first-listed _ _ _ _ _ _ (λ s g h. refl), nearest_enter c.cs.invariant.3)
 
 pub number_at-first-requires : goal.number_at-first-requires
-number_at-first-requires c κs =
+number_at-first-requires c =
     let k = c.requires.1.1.point.at.play in
     (omega (arith, c.rs-test.true, k.resolutions), omega (arith, c.cs-test.true, k.components))
 
 pub nearer_from-best-requires : goal.nearer_from-best-requires
-nearer_from-best-requires c κs =
-    let z = c.before in
-    let p = z.requires in
-    (p.0, (_, (point_part _ _ _ _ _ _ _ _ _ _ _ _ c.number_at-first.ensures p.1.1.point z.rs.invariant.0 z.rs-test.true z.cs.invariant.0 z.cs-test.true).start))
+nearer_from-best-requires c =
+    let p = c.requires in
+    (p.0, (_, (point_part _ _ _ _ _ _ _ _ _ _ _ _ c.number_at-first.ensures p.1.1.point c.rs.invariant.0 c.rs-test.true c.cs.invariant.0 c.cs-test.true).start))
 
 pub list_cell-count-requires : goal.list_cell-count-requires
-list_cell-count-requires c κs =
-    let z = c.before in
-    let p = z.requires in
+list_cell-count-requires c =
+    let p = c.requires in
     let d = p.1.1 in
-    let t = at-rs z in
-    let rt = z.rs-test.true in (
+    let t = at-rs (goal.at.list_cell-count-requires c).In-rs in
+    let rt = c.rs-test.true in (
       p.0,
       (
         p.1.0,
-        pointed-cell _ _ _ _ _ _ _ _ (pointed_long _ _ _ _ _ _ _ _ d _ t.long) _ _ _ c.number_at-first.ensures z.rs.invariant.0 rt z.cs.invariant.0 z.cs-test.true,
+        pointed-cell _ _ _ _ _ _ _ _ (pointed_long _ _ _ _ _ _ _ _ d _ t.long) _ _ _ c.number_at-first.ensures c.rs.invariant.0 rt c.cs.invariant.0 c.cs-test.true,
         few_part _ _ _ _ _ _ t _ _ _ _ d (in_r _ _ _ _ _ d.ready _ _ _ _ _ rt) p.1.2,
       ),
     )
 
 pub rs-preserved : goal.rs-preserved
 rs-preserved c =
-    let z = turned c in
-    let i = z.rs.inv in
-    let o = z.cs in
-    let rt = z.rs-test.taken in
-    let ct = z.cs-test.taken in
+    let i = c.rs.inv in
+    let o = c.cs in
+    let rt = c.rs-test.taken in
+    let ct = c.cs-test.taken in
     let first = c.number_at-first.ensures in
-    let p = z.requires in (
+    let p = c.requires in (
       omega (arith, i.0),
       omega (arith, rt),
       part_listed _ _ _ _ _ _ i.2 (cell_from _ _ _ _ _) _ (λ s g h. in_r s g _ _ _ h.ready _ _ _ _ _ rt) c.marks.given c.output.given

@@ -13,7 +13,7 @@ use Rattle.walks.proofs.list_rlcp.list_rlcp.Goals.{In-ls}
 
 -- the layer and the resolution at which the loops stand
 here : (c : In-ls) → InLevel c.args.w c.ls.l c.rs.r
-here c = record { layer = c.ls-test.true; res-from = c.rs.invariant.0; res-to = c.rs-test.true }
+here c = record { layer = c.ls-test.true; res_from = c.rs.invariant.0; res_to = c.rs-test.true }
 
 -- from the whole to what is left there
 at-ls : (c : In-ls)
@@ -29,18 +29,16 @@ pub ls-init : goal.ls-init
 ls-init c = first-listed _ _ _ _ _ _ (λ s g h. refl)
 
 pub list_level-count-requires : goal.list_level-count-requires
-list_level-count-requires c κs =
-    let z = c.before in
-    let p = z.requires in
+list_level-count-requires c =
+    let p = c.requires in
     let h = p.1.1 in
-    let t = at-ls z in
-    (here z, (p.0, (p.1.0, counted_long _ _ _ _ _ _ t.long h, few_part _ _ _ _ _ _ t _ _ _ _ h (in_l _ _ _ _ _ h _ _ _ _ z.ls-test.true) p.1.2)))
+    let t = at-ls (goal.at.list_level-count-requires c).In-ls in
+    (here (goal.at.list_level-count-requires c).In-ls, (p.0, (p.1.0, counted_long _ _ _ _ _ _ t.long h, few_part _ _ _ _ _ _ t _ _ _ _ h (in_l _ _ _ _ _ h _ _ _ _ c.ls-test.true) p.1.2)))
 
 pub ls-preserved : goal.ls-preserved
 ls-preserved c =
-    let z = c.before in
-    let i = z.ls.invariant in
-    part_listed _ _ _ _ _ _ i (level _ _ _ _) _ (λ s g h. in_l s g _ _ _ h _ _ _ _ z.ls-test.true) c.marks.given c.output.given
+    let i = c.ls.invariant in
+    part_listed _ _ _ _ _ _ i (level _ _ _ _) _ (λ s g h. in_l s g _ _ _ h _ _ _ _ c.ls-test.true) c.marks.given c.output.given
     (λ s g h. c.list_level-count.ensures s g (counted_long s g _ _ _ _ i.long h))
 
 pub rs-preserved : goal.rs-preserved

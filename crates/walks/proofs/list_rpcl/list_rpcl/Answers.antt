@@ -13,11 +13,10 @@ pub rs-init : goal.rs-init
 rs-init c = (omega arith, c.requires.0, first-listed _ _ _ _ _ _ (λ s g h. refl))
 
 pub list_pcrl-count-requires : goal.list_pcrl-count-requires
-list_pcrl-count-requires c κs =
-    let z = c.before in
-    let p = z.requires.1 in
-    let i = z.rs.invariant in
-    let t = z.rs-test.true in
+list_pcrl-count-requires c =
+    let p = c.requires.1 in
+    let i = c.rs.invariant in
+    let t = c.rs-test.true in
     let h = p.1.1 in
     rw c.part-one.ensures (
       i.1,
@@ -26,12 +25,11 @@ list_pcrl-count-requires c κs =
 
 pub rs-preserved : goal.rs-preserved
 rs-preserved c =
-    let z = c.before in
-    let one = z.part-one in
-    let r = z.rs.r in
-    let i = z.rs.invariant in
-    let t = z.rs-test.true in
-    let listed = z.list_pcrl-count.ensures in (
+    let one = c.part-one in
+    let r = c.rs.r in
+    let i = c.rs.invariant in
+    let t = c.rs-test.true in
+    let listed = c.list_pcrl-count.ensures in (
       omega (arith, i.0),
       listed.0,
       part_listed _ _ _ _ _ _ i.2 (λ s g. pcrl.wholly one.result s (alone g r)) _ (λ s g h. rw one.ensures (one-left s g _ _ _ h r i.0 t _ _ _ _)) c.marks.given c.output.given

@@ -15,7 +15,7 @@ pub returns-then-first-eq0 : goal.returns-then-first-eq0
 returns-then-first-eq0 c = λ s y h. nearer_out _ _ _ _ (noted_out s _ _ _ _ y h c.if-first-eq0.true)
 
 pub nearer-requires : goal.nearer-requires
-nearer-requires c κs = let w = c.requires in rw c.along_x-columns.ensures (noted-step w.0 _ _ _ _ _ w.1.1 (some (goal.at.nearer-requires c).Else-first-eq0))
+nearer-requires c = let w = c.requires in rw c.along_x-columns.ensures (noted-step w.0 _ _ _ _ _ w.1.1 (some (goal.at.nearer-requires c).Else-first-eq0))
 
 pub returns : goal.returns
 returns c = λ s y h. c.nearer.ensures ∙ rw c.along_x-columns.ensures (nearer_in _ _ _ _ _ (noted_in s _ _ _ _ y h (some (goal.at.returns c).Else-first-eq0)) (noted-columns s _ _ _ _ y h (some (goal.at.returns c).Else-first-eq0)))

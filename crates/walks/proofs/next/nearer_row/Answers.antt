@@ -15,7 +15,7 @@ pub returns-then-width_at-eq0 : goal.returns-then-width_at-eq0
 returns-then-width_at-eq0 c = λ s h. nearer_out _ _ _ _ (rows_out s _ _ _ (h.entry _ _ (omega arith) (omega arith) (omega arith) (omega arith)) (sym c.width_at.ensures ∙ c.if-width_at-eq0.true))
 
 pub nearer-requires : goal.nearer-requires
-nearer-requires c κs =
+nearer-requires c =
     let w = c.requires in
     rw c.along_y-rows.ensures (play_y_lem w.0 _ _ _ _ _ _ _ w.1 (omega arith) (omega arith) (omega arith) (omega arith) (wide (goal.at.nearer-requires c).Else-width_at-eq0))
 

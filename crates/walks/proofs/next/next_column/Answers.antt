@@ -22,12 +22,12 @@ row_of c s h =
     record { at = at; noted = c.row_at.ensures s at }
 
 pub row_at-requires : goal.row_at-requires
-row_at-requires c κs =
+row_at-requires c =
     let p = c.requires.1 in
     (p.0, row_part _ _ _ _ _ _ _ _ _ p.1 (omega arith) (omega arith) (omega arith) (omega arith))
 
 pub nearer_from-best-requires : goal.nearer_from-best-requires
-nearer_from-best-requires c κs = let p = c.requires.1 in (p.0, (_, row_of (goal.at.nearer_from-best-requires c).After-row_at p.0 p.1))
+nearer_from-best-requires c = let p = c.requires.1 in (p.0, (_, row_of (goal.at.nearer_from-best-requires c).After-row_at p.0 p.1))
 
 pub rs-preserved : goal.rs-preserved
 rs-preserved c =

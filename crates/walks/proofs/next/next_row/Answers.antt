@@ -12,7 +12,7 @@ pub rs-init : goal.rs-init
 rs-init c = (omega arith, omega arith, nearest_enter c.cs.invariant.2)
 
 pub nearer_row-best-requires : goal.nearer_row-best-requires
-nearer_row-best-requires c κs =
+nearer_row-best-requires c =
     let w = c.requires.1 in
     (w.0, play_part _ _ _ _ _ _ _ _ _ _ w.1 (omega arith) (omega arith) (omega arith) (omega arith))
 

@@ -1,7 +1,6 @@
 -- `pcrl` meets its contract. Each of the five loops keeps one thing, for every sheet and range that the walk is ready for (`Kept`): nothing is found yet, and
 -- what is left at this loop answers as what was to be searched at entry. A turn is one law of specs/Pcrl or specs/Layers: LOOP-holds is an `in` law, LOOP-again
 -- the `out` law of the inner loop. Assumes nothing.
-use Rattle.std.proofs.Common.{rules}
 use mathlib.Core.Path.{◌≡◌}
 use mathlib.Core.Bool.{Bool, true, false}
 use mathlib.Core.List.{◌∷◌}
@@ -23,7 +22,7 @@ use Rattle.walks.specs.Layers.{Layered, layer-fits, layer-read, cell-layered, ce
 use Rattle.walks.specs.Pcrl.{point, left_r, after_x, in_y, out_y, in_x, out_x, in_c, out_c, in_r, out_r, column_is, row_is}
 use Rattle.walks.proofs.pcrl.pcrl.Invariants.{Kept}
 use Rattle.walks.proofs.pcrl.pcrl.Goals as goal
-use Rattle.walks.proofs.pcrl.pcrl.Goals.{After-cell_at, After-is_free, After-next_column-x, After-next_row-y, In-ls, In-rs, In-search, Need-cell-at-requires, Need-enum-known-k, Need-index-requires, Need-is-free-requires, Need-next-column-requires, Need-next-row-requires, Need-search-init, Need-search-preserved, Need-search-smaller}
+use Rattle.walks.proofs.pcrl.pcrl.Goals.{After-cell_at, After-is_free, After-next_column-x, After-next_row-y, In-ls, In-rs, In-search}
 
 -- the walk is ready for a sheet and a range
 abbrev ReadyIn : In-search → Sheet → Range → Type 0
@@ -34,10 +33,10 @@ stands : (c : In-rs)
     → Stands c.args.w c.rs.r c.cs.c c.xs.x c.search.y
 stands c =
     record {
-      res-from = c.rs.invariant.0;
-      res-to = c.rs-test.true;
-      comp-from = c.cs.invariant.0;
-      comp-to = c.cs-test.true;
+      res_from = c.rs.invariant.0;
+      res_to = c.rs-test.true;
+      comp_from = c.cs.invariant.0;
+      comp_to = c.cs-test.true;
       left = c.xs.invariant.0;
       right = c.xs-test.true;
       top = c.search.invariant.0;
@@ -46,70 +45,66 @@ stands c =
 
 -- what the cell answers, for every sheet that the walk is ready for
 cell-is : (c : After-cell_at) (s : Sheet) (g : Range)
-    → (let d = c.before in
-    ReadyIn (at_y d) s g → c.Cell-at.result ≡ cell_of s d.before.rs.r (at_c d).before.cs.c (at_x d).before.xs.x (at_y d).before.search.y)
+    → (
+    ReadyIn c s g → c.Cell-at.result ≡ cell_of s c.rs.r c.cs.c c.xs.x c.search.y)
 cell-is c s g h = c.Cell-at.ensures s (at-point s g _ _ _ h _ _ _ _ (stands c.before))
 
 -- the cell is first of what is left
 cell-first : (c : After-cell_at)
-    → (let d = c.before in
-    let a = (start (at_y d)).args in
-    let x = (at_x d).before.xs.x in
-    let y = (at_y d).before.search.y in
-    let i = (at_c d).before.cs.c in
-    let r = d.before.rs.r in
-    Kept a.marks.now a.prep.now a.w a.y_from a.x_from a.c-from a.r-from a.l-from d.before.rs.found
-    (cell_from r i x y d.before.rs.l-at then left_r a.w y x i (r + 1) 0 then after_x a.w y x))
+    → (
+    let a = c.args in
+    let x = c.xs.x in
+    let y = c.search.y in
+    let i = c.cs.c in
+    let r = c.rs.r in
+    Kept a.marks.now a.prep.now a.w a.y_from a.x_from a.c-from a.r-from a.l-from c.rs.found
+    (cell_from r i x y c.rs.l-at then left_r a.w y x i (r + 1) 0 then after_x a.w y x))
 cell-first c = parts _ _ _ _ _ _ c.rs.invariant.1 _ _ (λ s g h. in_r s g _ _ _ h _ _ _ _ _ c.rs-test.true)
 
 -- the precinct that is met is one of the sheet's
 layered : (c : In-ls) (s : Sheet) (g : Range)
-    → (let d = at-r c in
-    let a = (start (at_y d)).args in
-    ReadyIn (at_y d) s g
-    → Layered s g a.w a.marks.now d.before.rs.r (at_c d).before.cs.c (at_x d).before.xs.x (at_y d).before.search.y c.k.given.0.0)
+    → (let a = (start (at_y c)).args in
+    ReadyIn (at_y c) s g
+    → Layered s g a.w a.marks.now c.rs.r (at_c c).before.cs.c (at_x c).before.xs.x (at_y c).before.search.y c.k.given.0.0)
 layered c s g h =
     cell-layered s g _ _ _ h _ _ _ _ (stands c) _ (cell-is c.before.before.before.before.before s g h) _ c.k.given.1
 
 -- a layer is the next, and what is read of its mark is what the sheet's index finds
 read_here : (c : After-is_free) (s : Sheet) (g : Range)
-    → (let d = at-r c.before in
-    let r = d.before.rs.r in
-    let i = (at_c d).before.cs.c in
-    let x = (at_x d).before.xs.x in
-    let y = (at_y d).before.search.y in
+    → (let r = c.rs.r in
+    let i = (at_c c).before.cs.c in
+    let x = (at_x c).before.xs.x in
+    let y = (at_y c).before.search.y in
     let k = c.k.given.0.0 in
     let l = c.ls.l in
-    ReadyIn (at_y d) s g → (t : Bool) → c.is_free.result ≡ t
+    ReadyIn (at_y c) s g → (t : Bool) → c.is_free.result ≡ t
     → (layers_from r i x y k l s g ≡ packet_of r i x y k l ∷ layers_from r i x y k (l + 1) s g)
-    × (free_at (start (at_y d)).args.w.viewer (start (at_y d)).args.marks.now (index_of s.st (packet_of r i x y k l)) ≡ t))
+    × (free_at (start (at_y c)).args.w.viewer (start (at_y c)).args.marks.now (index_of s.st (packet_of r i x y k l)) ≡ t))
 read_here c s g h t e =
     layer-read s g _ _ _ _ _ _ _ (layered c.before.before s g h) _ c.ls-test.true _ _ _ _ c.index-i.ensures c.is_free.ensures e
 
 -- the next column and row, for every such sheet; and they grow
 column-here : (c : After-next_column-x) (s : Sheet) (g : Range)
-    → (let d = c.before in
+    → (
     let x = c.xs.x in
-    ReadyIn d s g → (c.next_column-x.result ≡ next_x s g everything (point_of 0 0 0 d.before.search.y) x) × (x < c.next_column-x.result))
+    ReadyIn c.before.before.before.before.before s g → (c.next_column-x.result ≡ next_x s g everything (point_of 0 0 0 c.search.y) x) × (x < c.next_column-x.result))
 column-here c s g h =
-    let d = c.before in
-    column_is s g _ _ _ h _ _ _ (c.next_column-x.ensures s (at_row s g _ _ _ h _ d.before.search.invariant.0 d.search-test.true))
+    column_is s g _ _ _ h _ _ _ (c.next_column-x.ensures s (at_row s g _ _ _ h _ c.search.invariant.0 c.search-test.true))
 
 column-up : (c : After-next_column-x) → c.xs.x < c.next_column-x.result
-column-up c = let p = c.requires.0 in (column-here c p.0 p.1.0 p.1.1).1
+column-up c = let p = c.requires.some_ready in (column-here c p.0 p.1.0 p.1.1).1
 
 row_here : (c : After-next_row-y) (s : Sheet) (g : Range)
-    → (let d = c.before in
-    let y = d.before.search.y in
-    ReadyIn d s g → (c.next_row-y.result ≡ next_y s g everything origin y) × (y < c.next_row-y.result))
+    → (
+    let y = c.search.y in
+    ReadyIn c.before.before.before s g → (c.next_row-y.result ≡ next_y s g everything origin y) × (y < c.next_row-y.result))
 row_here c s g h = row_is s g _ _ _ h _ _ (c.next_row-y.ensures s (in_play_lem s g _ _ _ h _ _ _ _ (omega arith) (omega arith) (omega arith) (omega arith)))
 
 row_up : (c : After-next_row-y) → c.search.y < c.next_row-y.result
-row_up c = let p = c.requires.0 in (row_here c p.0 p.1.0 p.1.1).1
+row_up c = let p = c.requires.some_ready in (row_here c p.0 p.1.0 p.1.1).1
 
-search-holds :
-    Need-search-init
-search-holds c = let p = c.requires.1 in (p.0, p.1, p.2, p.3, starts _ _ _ _)
+pub search-init : goal.search-init
+search-init c = let p = c.requires.ty0_le_y_from in (p.0, p.1, p.2, p.3, starts _ _ _ _)
 
 pub xs-init : goal.xs-init
 xs-init c =
@@ -119,32 +114,21 @@ xs-init c =
 pub cs-init : goal.cs-init
 cs-init c =
     let i = c.xs.invariant in
-    let d = c.before in
-    (i.1, i.2, splits _ _ _ _ _ i.3 _ _ (λ s g h. in_x s g _ _ _ h _ _ _ _ _ d.before.search.invariant.0 d.search-test.true i.0 c.xs-test.true))
+    (i.1, i.2, splits _ _ _ _ _ i.3 _ _ (λ s g h. in_x s g _ _ _ h _ _ _ _ _ c.search.invariant.0 c.search-test.true i.0 c.xs-test.true))
 
 pub rs-init : goal.rs-init
 rs-init c = let i = c.cs.invariant in (i.1, turns _ _ _ _ _ _ i.2 _ (λ s g h. in_c s g _ _ _ h _ _ _ _ _ c.cs-test.true))
 
-cell-at-requires :
-    Need-cell-at-requires
-cell-at-requires c κs = let p = c.requires.0 in (p.0, at-point p.0 p.1.0 _ _ _ p.1.1 _ _ _ _ (stands c))
-
-enum-known-k :
-    Need-enum-known-k
-enum-known-k c = search rules
+pub cell_at-requires : goal.cell_at-requires
+cell_at-requires c = let p = c.requires.some_ready in (p.0, at-point p.0 p.1.0 _ _ _ p.1.1 _ _ _ _ (stands (goal.at.cell_at-requires c).In-rs))
 
 pub ls-init : goal.ls-init
 ls-init c =
     turns _ _ _ _ _ _ (cell-first (goal.at.ls-init c).After-cell_at) _
     (λ s g h. cell-left s g _ _ _ h _ _ _ _ (stands (goal.at.ls-init c).In-rs) _ (cell-is (goal.at.ls-init c).After-cell_at s g h) _ _ c.k.given.1)
 
-index-requires :
-    Need-index-requires
-index-requires c κs = let p = c.requires.0 in layer-fits _ _ _ _ _ _ _ _ _ (layered c p.0 p.1.0 p.1.1) _ c.ls-test.true
-
-is-free-requires :
-    Need-is-free-requires
-is-free-requires c κs = search rules
+pub index-i-requires : goal.index-i-requires
+index-i-requires c = let p = c.requires.some_ready in layer-fits _ _ _ _ _ _ _ _ _ (layered (goal.at.index-i-requires c).In-ls p.0 p.1.0 p.1.1) _ c.ls-test.true
 
 pub ls-preserved : goal.ls-preserved
 ls-preserved c = passes _ _ _ _ _ _ c.ls.invariant _ _ (λ s g h. read_here (goal.at.ls-preserved c).After-is_free s g h false c.if-is_free.false)
@@ -168,12 +152,10 @@ cs-preserved c = (
   turns _ _ _ _ _ _ c.rs.invariant.1 _ (λ s g h. out_r s g _ _ _ h _ _ _ _ _ c.rs-test.false),
 )
 
-next-column-requires :
-    Need-next-column-requires
-next-column-requires c κs =
-    let d = c.before in
-    let p = (start d).requires.0 in
-    (c.xs-test.true, (p.0, at_row _ _ _ _ _ p.1.1 _ d.before.search.invariant.0 d.search-test.true))
+pub next_column-x-requires : goal.next_column-x-requires
+next_column-x-requires c =
+    let p = c.requires.some_ready in
+    (c.xs-test.true, (p.0, at_row _ _ _ _ _ p.1.1 _ c.search.invariant.0 c.search-test.true))
 
 pub xs-smaller : goal.xs-smaller
 xs-smaller c = omega (arith, column-up (goal.at.xs-smaller c).After-next_column-x, c.xs-test.true)
@@ -186,24 +168,21 @@ xs-preserved c = (
   onward _ _ _ _ _ (leaves _ _ _ _ _ _ c.cs.invariant.2 (λ s g h. out_c s g _ _ _ h _ _ _ _ _ c.cs-test.false)) _ (λ s g h. rw (column-here (goal.at.xs-preserved c).After-next_column-x s g h).0),
 )
 
-next-row-requires :
-    Need-next-row-requires
-next-row-requires c κs =
-    let p = c.requires.0 in
+pub next_row-y-requires : goal.next_row-y-requires
+next_row-y-requires c =
+    let p = c.requires.some_ready in
     (c.search-test.true, (p.0, in_play_lem _ _ _ _ _ p.1.1 _ _ _ _ (omega arith) (omega arith) (omega arith) (omega arith)))
 
-search-less :
-    Need-search-smaller
-search-less c = omega (arith, row_up c, c.search-test.true)
+pub search-smaller : goal.search-smaller
+search-smaller c = omega (arith, row_up (goal.at.search-smaller c).After-next_row-y, c.search-test.true)
 
-search-again :
-    Need-search-preserved
-search-again c = (
-  omega (arith, row_up c, c.search.invariant.0),
+pub search-preserved : goal.search-preserved
+search-preserved c = (
+  omega (arith, row_up (goal.at.search-preserved c).After-next_row-y, c.search.invariant.0),
   omega arith,
   omega arith,
   omega arith,
-  onward _ _ _ _ _ c.xs.invariant.3 _ (λ s g h. rw (row_here c s g h).0 (out_x s g _ _ _ h _ _ _ _ _ c.xs-test.false)),
+  onward _ _ _ _ _ c.xs.invariant.3 _ (λ s g h. rw (row_here (goal.at.search-preserved c).After-next_row-y s g h).0 (out_x s g _ _ _ h _ _ _ _ _ c.xs-test.false)),
 )
 
 -- left by the outermost test: nothing is left

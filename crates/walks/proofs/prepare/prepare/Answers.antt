@@ -31,11 +31,9 @@ pub bounds-st-i-in-cs-2 : goal.bounds-st-i-in-cs-2
 bounds-st-i-in-cs-2 c = omega (arith, c.requires.1.most)
 
 pub prepare_component-requires : goal.prepare_component-requires
-prepare_component-requires c κs =
-    let o = c.before in
-    let i = o.cs in
-    let z = o.before.before in
-    (i.invariant.2.long, (sheet_at z.args.t3 z.args.table.now, rw (i.invariant.1, c.of-x.ensures, c.of-y.ensures) (z.requires.1.each i.c c.cs-test.true)))
+prepare_component-requires c =
+    let i = c.cs in
+    (i.invariant.2.long, (sheet_at c.args.st c.args.table.now, rw (i.invariant.1, c.of-x.ensures, c.of-y.ensures) (c.requires.1.each i.c c.cs-test.true)))
 
 pub overflow_cast-base : goal.overflow_cast-base
 overflow_cast-base c = let o = stood c in let i = o.cs in omega (arith, (o.before.before.pre.1.each i.c c.cs-test.true).levels)
@@ -45,11 +43,10 @@ overflow_add-base c = let o = stood c in let i = o.cs in let k = o.before.before
 
 pub cs-preserved : goal.cs-preserved
 cs-preserved c =
-    let o = stood c in
-    let i = o.cs in
-    let k = o.before.before.pre.1 in
+    let i = c.cs in
+    let k = c.requires.1 in
     let d = rw (c.of-x.ensures, c.of-y.ensures, i.inv.1) at c.prepare_component.ensures in
     (omega arith, rw i.inv.1 (sym (entries_more _ i.c)), all_more _ _ _ _ _ i.c (omega (arith, k.most)) (k.each i.c c.cs-test.true) i.inv.2 d)
 
 pub returns : goal.returns
-returns c = let i = c.cs in let e : i.c ≡ c.args.t3.components = omega arith in rw e at i.invariant.2
+returns c = let i = c.cs in let e : i.c ≡ c.args.st.components = omega arith in rw e at i.invariant.2

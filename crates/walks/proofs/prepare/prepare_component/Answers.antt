@@ -12,7 +12,7 @@ pub overflow_add-base : goal.overflow_add-base
 overflow_add-base c = let k = c.requires.1.1 in omega (arith, k.levels, k.near)
 
 pub prepare_entry-requires : goal.prepare_entry-requires
-prepare_entry-requires c κs =
+prepare_entry-requires c =
     let w = c.requires.1 in
     rw c.at-e.ensures (entry_in w.0 _ _ _ _ _ _ w.1 c.rs.r c.rs-test.true)
 

@@ -1,7 +1,6 @@
 -- `rlcp` meets its contract. Each of the four loops keeps one thing, for every sheet and range that the walk is counted for (`Kept`): nothing is found yet, and
 -- what is left at this loop answers as what was to be searched at entry. A turn is one law of specs/Rlcp or specs/Counts: LOOP-holds is an `in` law, LOOP-again
 -- the `out` law of the inner loop. Assumes nothing.
-use Rattle.std.proofs.Common.{rules}
 use mathlib.Core.Path.{◌≡◌}
 use mathlib.Core.Bool.{Bool, true, false}
 use mathlib.Core.List.{◌∷◌}
@@ -15,7 +14,7 @@ use Rattle.walks.specs.Going.{◌then◌, starts, onward, splits, ends, turns, l
 use Rattle.walks.specs.Counts.{place_of, level, left_k, in_c, out_c, out_k, Stands, held, count_is, mark-fits, mark-read}
 use Rattle.walks.specs.Rlcp.{in_l, out_l, in_r, out_r}
 use Rattle.walks.proofs.rlcp.rlcp.Goals as goal
-use Rattle.walks.proofs.rlcp.rlcp.Goals.{After-is_free, In-cs, Need-is-free-requires, Need-number-at-requires}
+use Rattle.walks.proofs.rlcp.rlcp.Goals.{After-is_free, In-cs}
 
 -- the walk is counted for a sheet and a range
 abbrev CountedIn : In-cs → Sheet → Range → Type 0
@@ -26,26 +25,26 @@ stands : (c : In-cs)
     → Stands c.args.w c.ls.l c.search.r c.cs.c
 stands c =
     record {
-      level = record { layer = c.ls-test.true; res-from = c.search.invariant.0; res-to = c.search-test.true };
-      comp-from = c.cs.invariant.0;
-      comp-to = c.cs-test.true;
+      level = record { layer = c.ls-test.true; res_from = c.search.invariant.0; res_to = c.search-test.true };
+      comp_from = c.cs.invariant.0;
+      comp_to = c.cs-test.true;
     }
 
 -- a precinct is the next, and what is read of its mark is what the sheet's index finds
 read_here : (c : After-is_free) (s : Sheet) (g : Range)
-    → (let d = c.before in
-    let l = (at-l d).before.ls.l in
-    let r = (at-r d).before.search.r in
-    let i = d.before.cs.c in
+    → (
+    let l = c.ls.l in
+    let r = c.search.r in
+    let i = c.cs.c in
     let k = c.ks.k in
-    CountedIn d s g → (t : Bool) → c.is_free.result ≡ t
-    → (left_k l r i k s g ≡ place_of l r i k ∷ left_k l r i (k + 1) s g) × (free_at (start d).args.w.viewer (start d).args.marks.now (index_of s.st (place_of l r i k)) ≡ t))
+    CountedIn c.before.before.before.before.before s g → (t : Bool) → c.is_free.result ≡ t
+    → (left_k l r i k s g ≡ place_of l r i k ∷ left_k l r i (k + 1) s g) × (free_at c.args.w.viewer c.args.marks.now (index_of s.st (place_of l r i k)) ≡ t))
 read_here c s g h t e =
     mark-read s g _ _ _ h _ _ _ (stands c.before.before.before.before.before) _ c.number_at-count.ensures _ c.ks-test.true
     _ _ _ _ c.index-i.ensures c.is_free.ensures e
 
 pub search-init : goal.search-init
-search-init c = let p = c.requires.1 in (p.0, p.1, starts _ _ _ _)
+search-init c = let p = c.requires.resno0_le_r_from in (p.0, p.1, starts _ _ _ _)
 
 pub ls-init : goal.ls-init
 ls-init c = let i = c.search.invariant in (i.1, onward _ _ _ _ _ i.2 _ (λ s g h. in_r s g _ _ _ h _ _ _ _ c.search-test.true))
@@ -53,22 +52,16 @@ ls-init c = let i = c.search.invariant in (i.1, onward _ _ _ _ _ i.2 _ (λ s g h
 pub cs-init : goal.cs-init
 cs-init c = let i = c.ls.invariant in (i.0, splits _ _ _ _ _ i.1 _ _ (λ s g h. in_l s g _ _ _ h _ _ _ _ c.ls-test.true))
 
-number-at-requires :
-    Need-number-at-requires
-number-at-requires c κs = let p = c.requires.0 in held p.0 p.1.0 _ _ _ p.1.1 _ _ _ (stands c)
+pub number_at-count-requires : goal.number_at-count-requires
+number_at-count-requires c = let p = c.requires.some_counted in held p.0 p.1.0 _ _ _ p.1.1 _ _ _ (stands (goal.at.number_at-count-requires c).In-cs)
 
 pub ks-init : goal.ks-init
 ks-init c = turns _ _ _ _ _ _ c.cs.invariant.1 _ (λ s g h. in_c s g _ _ _ _ (rw h.ranged.compno1 at c.cs-test.true))
 
 pub index-i-requires : goal.index-i-requires
-index-i-requires c κs =
-    let d = c.before in
-    let p = (start d).requires.0 in
-    mark-fits p.0 p.1.0 _ _ _ p.1.1 _ _ _ (stands d) _ c.number_at-count.ensures _ c.ks-test.true
-
-is-free-requires :
-    Need-is-free-requires
-is-free-requires c κs = search rules
+index-i-requires c =
+    let p = c.requires.some_counted in
+    mark-fits p.0 p.1.0 _ _ _ p.1.1 _ _ _ (stands (goal.at.index-i-requires c).In-cs) _ c.number_at-count.ensures _ c.ks-test.true
 
 pub ks-preserved : goal.ks-preserved
 ks-preserved c = passes _ _ _ _ _ _ c.ks.invariant _ _ (λ s g h. read_here (goal.at.ks-preserved c).After-is_free s g h false c.if-is_free.false)

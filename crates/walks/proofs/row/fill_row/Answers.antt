@@ -23,23 +23,22 @@ rs-init c =
     (omega arith, omega arith, o.invariant.2, (λ s h. note_enter s o.row a.r0 a.r1 a.c0 o.c a.y (o.invariant.3 s h)), nearest_enter o.invariant.4)
 
 pub nearer_row-best-requires : goal.nearer_row-best-requires
-nearer_row-best-requires c κs =
+nearer_row-best-requires c =
     let w = c.requires.2 in
     (w.0, play_part _ _ _ _ _ _ _ _ _ _ w.1.play (omega arith) (omega arith) (omega arith) (omega arith))
 
 pub row_at-requires : goal.row_at-requires
-row_at-requires c κs =
+row_at-requires c =
     let w = c.requires.2 in
     (w.0, row_part w.0 _ _ _ _ _ _ _ _ w.1 (omega arith) (omega arith) (omega arith) (omega arith))
 
 pub put_number-requires : goal.put_number-requires
-put_number-requires c κs = let k = c.requires.2.1.play in (omega (arith, k.resolutions), omega (arith, k.components))
+put_number-requires c = let k = c.requires.2.1.play in (omega (arith, k.resolutions), omega (arith, k.components))
 
 pub rs-preserved : goal.rs-preserved
 rs-preserved c =
-    let z = entered c in
-    let a = z.args in
-    let w = z.requires.2 in
+    let a = c.args in
+    let w = c.requires.2 in
     let k = w.1.play in
     let o = c.cs in
     let i = c.rs in

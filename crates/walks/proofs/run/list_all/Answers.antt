@@ -7,26 +7,23 @@ use Rattle.walks.specs.Counting.{sound-entries, sound-counts}
 use Rattle.walks.specs.Taking.{cleared}
 use Rattle.walks.specs.RunAll.{RestIn, all_in, plan_asks, all-first, rest_in, plans, all-run, all-next, all-ended}
 use Rattle.walks.proofs.run.list_all.Goals as goal
-use Rattle.walks.proofs.run.list_all.Goals.{After-count_precincts, After-slice_known-in-runs-2-1, In-runs}
-
-abbrev turned : After-slice_known-in-runs-2-1 → In-runs
-turned c = c.before
+use Rattle.walks.proofs.run.list_all.Goals.{After-count_precincts}
 
 -- the precincts are counted
-counted : (c : After-count_precincts) → (let a = c.args in RestIn a.st a.table.now c.count_precincts.new.0 a.marks.now 0 0)
+counted : (c : After-count_precincts) → (let a = c.args in RestIn a.st a.table.now c.count_precincts.new.counts a.marks.now 0 0)
 counted c = let w = c.requires in all_in _ _ _ _ w (sound-counts _ _ _ _ _ w c.count_precincts.ensures (cleared 528))
 
 pub count_precincts-requires : goal.count_precincts-requires
-count_precincts-requires c κs = (refl, sound-entries _ _ _ c.requires)
+count_precincts-requires c = (refl, sound-entries _ _ _ c.requires)
 
 pub runs-init : goal.runs-init
 runs-init c = all-first
 
 pub plan_of-plan-requires : goal.plan_of-plan-requires
-plan_of-plan-requires c κs = plan_asks _ _ _ c.requires _ c.runs-test.true
+plan_of-plan-requires c = plan_asks _ _ _ c.requires _ c.runs-test.true
 
 pub list_rest-requires : goal.list_rest-requires
-list_rest-requires c κs = rest_in c.runs.invariant (counted (goal.at.list_rest-requires c).After-count_precincts)
+list_rest-requires c = rest_in c.runs.invariant (counted (goal.at.list_rest-requires c).After-count_precincts)
 
 pub shape_of-marks-then-by_points : goal.shape_of-marks-then-by_points
 shape_of-marks-then-by_points c = c.marks.given ∙ c.runs.invariant.long
@@ -38,19 +35,18 @@ pub returns-then-by_points : goal.returns-then-by_points
 returns-then-by_points c = c.list_rest.ensures ∙ sym c.runs.invariant.same
 
 pub list_counted-count-requires : goal.list_counted-count-requires
-list_counted-count-requires c κs =
+list_counted-count-requires c =
     let i = c.runs.invariant in
     (all-run i c.runs-test.true (counted (goal.at.list_counted-count-requires c).After-count_precincts) c.plan_of-plan.ensures, sym c.by_points.ensures ∙ c.if-by_points.false)
 
 pub overflow_add-k : goal.overflow_add-k
-overflow_add-k c = let t = turned c in omega (arith, (plan_asks _ _ _ t.before.before.before.before.before.before.before.pre _ t.runs-test.taken).0)
+overflow_add-k c = let t = c in omega (arith, (plan_asks _ _ _ t.before.before.before.before.before.before.before.pre _ t.runs-test.taken).0)
 
 pub runs-preserved : goal.runs-preserved
 runs-preserved c =
-    let t = turned c in
-    let i = t.before.runs.inv in
-    let h = t.runs-test.taken in
-    let d = counted t.before.before in
+    let i = c.runs.inv in
+    let h = c.runs-test.taken in
+    let d = counted c.before in
     all-next i h c.marks2.given c.output2.given (c.list_counted-count.ensures _ _ _ (plans i h d c.plan_of-plan.ensures) d.counted)
 
 pub shape_of-marks : goal.shape_of-marks

@@ -7,88 +7,80 @@ use Rattle.walks.specs.ByOrder.{none_listed, few-of, listed-of}
 use Rattle.walks.proofs.run.list_progression.Goals as goal
 
 pub list_lrcp-requires : goal.list_lrcp-requires
-list_lrcp-requires c κs =
+list_lrcp-requires c =
     let p = c.requires.1 in
     let e = c.enum_told.given.1 in
     (_, (_, planned-counted _ _ _ _ _ p.1.1.1 (some e refl) p.1.1.2, few-of _ _ _ _ _ p.1.1.1 _ e _ p.1.1.4))
 
 pub list_rlcp-requires : goal.list_rlcp-requires
-list_rlcp-requires c κs =
+list_rlcp-requires c =
     let p = c.requires.1 in
     let e = c.enum-told2.given.1 in
     (_, (_, planned-counted _ _ _ _ _ p.1.1.1 (some e refl) p.1.1.2, few-of _ _ _ _ _ p.1.1.1 _ e _ p.1.1.4))
 
 pub list_rpcl-requires : goal.list_rpcl-requires
-list_rpcl-requires c κs =
-    let z = c.before in
-    let p = z.requires in
+list_rpcl-requires c =
+    let p = c.requires in
     let q = p.1.1.1 in
-    let e = z.enum-told3.given.1 in
+    let e = c.enum-told3.given.1 in
     (p.0, (_, (_, planned-ready _ _ _ _ _ q.1 q.3 (ap by_points e), few-of _ _ _ _ _ q.1 _ e _ q.4)))
 
 pub list_pcrl-requires : goal.list_pcrl-requires
-list_pcrl-requires c κs =
-    let z = c.before in
-    let p = z.requires in
+list_pcrl-requires c =
+    let p = c.requires in
     let q = p.1.1.1 in
-    let e = z.enum-told4.given.1 in
+    let e = c.enum-told4.given.1 in
     (p.0, (_, (_, planned-ready _ _ _ _ _ q.1 q.3 (ap by_points e), few-of _ _ _ _ _ q.1 _ e _ q.4)))
 
 pub list_cprl-requires : goal.list_cprl-requires
-list_cprl-requires c κs =
-    let z = c.before in
-    let p = z.requires in
+list_cprl-requires c =
+    let p = c.requires in
     let q = p.1.1.1 in
-    let e = z.enum-told5.given.1 in
+    let e = c.enum-told5.given.1 in
     (p.0, (_, (_, planned-ready _ _ _ _ _ q.1 q.3 (ap by_points e), few-of _ _ _ _ _ q.1 _ e _ q.4)))
 
 pub returns-in-Lrcp : goal.returns-in-Lrcp
-returns-in-Lrcp c =
-    let z = c.before in (
-      z.requires.0,
-      λ st table k d a p.
-          let e = z.enum_told.given.1 in
-          listed-of _ _ _ _ _ d _ e _ _ (c.list_lrcp.ensures _ _ (planned-counted _ _ _ _ _ d (some e refl) a)),
-    )
+returns-in-Lrcp c = (
+  c.requires.0,
+  λ st table k d a p.
+      let e = c.in-Lrcp.is in
+      listed-of _ _ _ _ _ d _ e _ _ (c.list_lrcp.ensures _ _ (planned-counted _ _ _ _ _ d (some e refl) a)),
+)
 
 pub returns-in-Rlcp : goal.returns-in-Rlcp
-returns-in-Rlcp c =
-    let z = c.before in (
-      z.requires.0,
-      λ st table k d a p.
-          let e = z.enum-told2.given.1 in
-          listed-of _ _ _ _ _ d _ e _ _ (c.list_rlcp.ensures _ _ (planned-counted _ _ _ _ _ d (some e refl) a)),
-    )
+returns-in-Rlcp c = (
+  c.requires.0,
+  λ st table k d a p.
+      let e = c.in-Rlcp.is in
+      listed-of _ _ _ _ _ d _ e _ _ (c.list_rlcp.ensures _ _ (planned-counted _ _ _ _ _ d (some e refl) a)),
+)
 
 pub returns-in-Rpcl : goal.returns-in-Rpcl
 returns-in-Rpcl c =
-    let z = c.before in
-    let f = z.list_rpcl.ensures in (
+    let f = c.list_rpcl.ensures in (
       f.0,
       λ st table k d a p.
-          let e = z.enum-told3.given.1 in
+          let e = c.in-Rpcl.is in
           listed-of _ _ _ _ _ d _ e _ _ (f.1 _ _ (planned-ready _ _ _ _ _ d p (ap by_points e))),
     )
 
 pub returns-in-Pcrl : goal.returns-in-Pcrl
 returns-in-Pcrl c =
-    let z = c.before in
-    let f = z.list_pcrl.ensures in (
+    let f = c.list_pcrl.ensures in (
       f.0,
       λ st table k d a p.
-          let e = z.enum-told4.given.1 in
+          let e = c.in-Pcrl.is in
           listed-of _ _ _ _ _ d _ e _ _ (f.1 _ _ (planned-ready _ _ _ _ _ d p (ap by_points e))),
     )
 
 pub returns-in-Cprl : goal.returns-in-Cprl
 returns-in-Cprl c =
-    let z = c.before in
-    let f = z.list_cprl.ensures in (
+    let f = c.list_cprl.ensures in (
       f.0,
       λ st table k d a p.
-          let e = z.enum-told5.given.1 in
+          let e = c.in-Cprl.is in
           listed-of _ _ _ _ _ d _ e _ _ (f.1 _ _ (planned-ready _ _ _ _ _ d p (ap by_points e))),
     )
 
 pub returns-in-NoPositions : goal.returns-in-NoPositions
-returns-in-NoPositions c = (c.requires.0, λ st table k d a p. none_listed _ _ _ _ _ d c.enum-told6.given.1 _ _)
+returns-in-NoPositions c = (c.requires.0, λ st table k d a p. none_listed _ _ _ _ _ d c.in-NoPositions.is _ _)

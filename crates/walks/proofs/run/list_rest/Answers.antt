@@ -6,28 +6,24 @@ use Rattle.walks.specs.FromSound.{AllFilled, sound-components, sound-filled}
 use Rattle.walks.specs.Taking.{cleared}
 use Rattle.walks.specs.RunAll.{plan_asks, all-first, plans, run-few, all-next, all-ended}
 use Rattle.walks.proofs.run.list_rest.Goals as goal
-use Rattle.walks.proofs.run.list_rest.Goals.{After-prepare, After-slice_known-in-runs-2-1, In-runs}
-
-abbrev turned : After-slice_known-in-runs-2-1 → In-runs
-turned c = c.before
+use Rattle.walks.proofs.run.list_rest.Goals.{After-prepare}
 
 -- the numbers are prepared
-filled : (c : After-prepare) → (let a = c.args in AllFilled a.st a.table.now c.prepare.new.0)
+filled : (c : After-prepare) → (let a = c.args in AllFilled a.st a.table.now c.prepare.new.prep)
 filled c =
-    let z = c.before in
-    sound-filled _ _ _ z.requires.sound _ _ c.prepare.ensures (cleared 3696) (omega (arith, z.well-formed.0.1.1.1.1.0)) (omega (arith, z.well-formed.0.1.1.1.1.1.0))
+    sound-filled _ _ _ c.requires.sound _ _ c.prepare.ensures (cleared 3696) (omega (arith, c.well_formed.0.1.1.1.1.0)) (omega (arith, c.well_formed.0.1.1.1.1.1.0))
 
 pub prepare-requires : goal.prepare-requires
-prepare-requires c κs = (refl, sound-components _ _ _ c.requires.sound)
+prepare-requires c = (refl, sound-components _ _ _ c.requires.sound)
 
 pub runs-init : goal.runs-init
 runs-init c = (refl, all-first)
 
 pub plan_of-plan-requires : goal.plan_of-plan-requires
-plan_of-plan-requires c κs = plan_asks _ _ _ c.requires.sound _ c.runs-test.true
+plan_of-plan-requires c = plan_asks _ _ _ c.requires.sound _ c.runs-test.true
 
 pub list_progression-count-requires : goal.list_progression-count-requires
-list_progression-count-requires c κs =
+list_progression-count-requires c =
     let i = c.runs.invariant in
     let h = c.runs-test.true in
     let p = c.plan_of-plan.ensures in
@@ -35,16 +31,15 @@ list_progression-count-requires c κs =
     (i.0, (_, (_, (_, plans i.1 h d p, d.counted, filled (goal.at.list_progression-count-requires c).After-prepare, run-few i.1 h d p))))
 
 pub overflow_add-k : goal.overflow_add-k
-overflow_add-k c = let t = turned c in omega (arith, (plan_asks _ _ _ (entered t.before).pre.sound _ t.runs-test.taken).0)
+overflow_add-k c = let t = c in omega (arith, (plan_asks _ _ _ (entered t.before).pre.sound _ t.runs-test.taken).0)
 
 pub runs-preserved : goal.runs-preserved
 runs-preserved c =
-    let t = turned c in
-    let i = t.before.runs.inv in
-    let h = t.runs-test.taken in
-    let d = (entered t.before).pre in
+    let i = c.runs.inv in
+    let h = c.runs-test.taken in
+    let d = (entered c.before).pre in
     let f = c.list_progression-count.ensures in
-    (f.0, all-next i.1 h c.marks.given c.output.given (f.1 _ _ _ (plans i.1 h d c.plan_of-plan.ensures) d.counted (filled t.before.before)))
+    (f.0, all-next i.1 h c.marks.given c.output.given (f.1 _ _ _ (plans i.1 h d c.plan_of-plan.ensures) d.counted (filled c.before)))
 
 pub shape_of-marks : goal.shape_of-marks
 shape_of-marks c = c.runs.invariant.1.long

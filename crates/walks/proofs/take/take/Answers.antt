@@ -37,9 +37,8 @@ answer : (c : After-search) → (let a = c.args in
     answer_of c.search.result ≡ seek a.c.viewer (index_of a.st) a.marks.now (after a.c.place (positions_for a.st a.table.now a.c.progression)))
 answer c =
     let a = c.args in
-    let p = c.before in
-    c.search.ensures _ (planned p) c.requires.1.admitted
-    ∙ ap (λ v. seek v (index_of a.st) a.marks.now (after a.c.place (positions_for a.st a.table.now a.c.progression))) (ap (λ (w : Walk). w.viewer) p.plan_of-plan.ensures.1)
+    c.search.ensures _ (planned c.before.before) c.requires.1.admitted
+    ∙ ap (λ v. seek v (index_of a.st) a.marks.now (after a.c.place (positions_for a.st a.table.now a.c.progression))) (ap (λ (w : Walk). w.viewer) c.plan_of-plan.ensures.1)
 
 -- what is found has its mark among those needed
 found : (c : After-search) (p : Position) → c.search.result ≡ At p
@@ -47,24 +46,23 @@ found : (c : After-search) (p : Position) → c.search.result ≡ At p
 found c p e = mark-at _ _ _ _ _ (planned c.before.before) c.args.c.place _ c.search.result p e (answer c)
 
 pub plan_of-plan-requires : goal.plan_of-plan-requires
-plan_of-plan-requires c κs = let w = c.requires in let s = strides_small _ _ _ w.0 in (omega (arith, w.1.named, w.0.tile.progressions.1), s.0, s.1)
+plan_of-plan-requires c = let w = c.requires in let s = strides_small _ _ _ w.0 in (omega (arith, w.1.named, w.0.tile.progressions.1), s.0, s.1)
 
 pub search-requires : goal.search-requires
-search-requires c κs = (_, planned (goal.at.search-requires c).After-plan_of-plan, c.requires.1.admitted)
+search-requires c = (_, planned (goal.at.search-requires c).After-plan_of-plan, c.requires.1.admitted)
 
 pub index-requires : goal.index-requires
-index-requires c κs = let z = c.before in let m = found z _ c.p.given.1 in omega (arith, m.0, m.1, z.requires.0.few)
+index-requires c = let z = c.before in let m = found z _ c.p.given.1 in omega (arith, m.0, m.1, z.requires.0.few)
 
 pub returns-in-At : goal.returns-in-At
 returns-in-At c =
-    let z = searched c in
-    let a = z.args in
-    let p = c.p.given.1 in (
-      ap answer_of (sym p) ∙ answer z,
-      c.set.ensures
-          ∙ set-marks a.c.viewer a.marks.now _ (lt-ltb _ 8 z.requires.1.viewer)
-          ∙ ap (mark_at a.c.viewer a.marks.now) (c.index.ensures ∙ (found z _ p).0),
-    )
+    let a = c.args in
+    let p = c.p.given.1 in record {
+      found = ap answer_of (sym p) ∙ answer c;
+      marked = c.set.ensures
+          ∙ set-marks a.c.viewer a.marks.now _ (lt-ltb _ 8 c.requires.1.viewer)
+          ∙ ap (mark_at a.c.viewer a.marks.now) (c.index.ensures ∙ (found c _ p).0);
+    }
 
 pub returns-in-Nothing : goal.returns-in-Nothing
-returns-in-Nothing c = (ap answer_of (sym c.enum_told.given.1) ∙ answer (goal.at.returns-in-Nothing c).After-search, refl)
+returns-in-Nothing c = record { found = ap answer_of (sym c.in-Nothing.is) ∙ answer (goal.at.returns-in-Nothing c).After-search; marked = refl }

@@ -2,7 +2,7 @@
 use Rattle.survey.proofs.places.Places.of.Goals as goal
 
 pub returns-in-Records : goal.returns-in-Records
-returns-in-Records c = rw c.enum_told.given.1
+returns-in-Records c = rw c.in-Records.is
 
 pub returns-in-Entries : goal.returns-in-Entries
-returns-in-Entries c = rw c.enum-told2.given.1
+returns-in-Entries c = rw c.in-Entries.is

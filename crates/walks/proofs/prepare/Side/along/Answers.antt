@@ -11,7 +11,6 @@ use Rattle.walks.proofs.prepare.Side.along.Goals as goal
 pub returns : goal.returns
 unfolding along_by columns_of
 returns c =
-    let w = c.before in
-    let low : c.at-r.result.r0 ≡ ceil_div w.args.self.axis.c0 (2 ^ w.args.level) = ap (λ (r : Resolution). r.r0) c.at-r.ensures in
-    let first : c.columns-columns.result.first ≡ c.at-r.result.r0 / 2 ^ w.args.pd = ap (λ (k : Columns). k.first) c.columns-columns.ensures in
+    let low : c.at-r.result.r0 ≡ ceil_div c.args.self.axis.c0 (2 ^ c.args.level) = ap (λ (r : Resolution). r.r0) c.at-r.ensures in
+    let first : c.columns-columns.result.first ≡ c.at-r.result.r0 / 2 ^ c.args.pd = ap (λ (k : Columns). k.first) c.columns-columns.ensures in
     rw (c.start.ensures, c.step.ensures, first, low)
