@@ -23,7 +23,7 @@ below c = omega (arith, c.loop-c-test.true, c.if-st-gt-MAX_COMPONENTS.false)
 
 -- a good component has at most 33 resolutions
 levels : (c : Then-one) → res_of c.args.st c.loop-c.c ≤ 33
-levels c = levels_few c.loop-c.inv.1 c.component-one.ensures.sums c.if-one.true
+levels c = levels_few c.loop-c.invariant.1 c.component-one.ensures.sums c.if-one.true
 
 -- after the loop all of them are passed
 module _ (c : After-loop-c) where
@@ -33,19 +33,19 @@ module _ (c : After-loop-c) where
   seen :
       let l = c.loop-c in
       let a = c.args in
-      Seen a.e.now c.of-places.result a.check a.t4 l.places l.all l.max-res l.fits l.xs l.ys a.t4.components
+      Seen a.e.now c.of-places.result a.check a.st l.places l.all l.max_res l.fits l.xs l.ys a.st.components
   seen = rw all-passed at c.loop-c.invariant.1
 
 pub returns-then-st-gt-MAX_COMPONENTS : goal.returns-then-st-gt-MAX_COMPONENTS
 returns-then-st-gt-MAX_COMPONENTS c =
-    let a = c.args in record { found = c.none.ensures ∙ sym (survey_in a.e.now a.at a.check a.t4 (places_of a.at) refl ∙ seen_many a.e.now _ a.check a.t4 c.if-st-gt-MAX_COMPONENTS.true); keeps = keeps_none a.kept.now _ 0 _ _ (ap (λ (f : Findings). f.good) c.none.ensures) }
+    let a = c.args in record { found = c.none.ensures ∙ sym (survey_in a.e.now a.at a.check a.st (places_of a.at) refl ∙ seen_many a.e.now _ a.check a.st c.if-st-gt-MAX_COMPONENTS.true); keeps = keeps_none a.kept.now _ 0 _ _ (ap (λ (f : Findings). f.good) c.none.ensures) }
 
 pub loop-c-init : goal.loop-c-init
 loop-c-init c =
     let a = c.args in (
       omega arith,
-      rw c.start-all.ensures (seen_none a.e.now c.of-places.result a.check a.t4 (small (goal.at.loop-c-init c).After-of-places)),
-      kept_none a.e.now c.of-places.result a.t4 a.kept.now,
+      rw c.start-all.ensures (seen_none a.e.now c.of-places.result a.check a.st (small (goal.at.loop-c-init c).After-of-places)),
+      kept_none a.e.now c.of-places.result a.st a.kept.now,
     )
 
 pub component-one-requires : goal.component-one-requires
@@ -57,33 +57,33 @@ component-one-requires c =
 
 pub after-places-requires : goal.after-places-requires
 after-places-requires c =
-    omega (arith, next_near c.loop-c.inv.1 c.component-one.ensures.sums (small (placed c)) (below c) c.if-one.true)
+    omega (arith, next_near c.loop-c.invariant.1 c.component-one.ensures.sums (small (goal.at.after-places-requires c).After-of-places) (below (goal.at.after-places-requires c).In-loop-c) c.if-one.true)
 
 pub overflow_mul-to : goal.overflow_mul-to
 overflow_mul-to c = omega (arith, levels (goal.at.overflow_mul-to c).Then-one)
 
 pub overflow_add-to : goal.overflow_add-to
-overflow_add-to c = let t = c in omega (arith, levels (goal.at.overflow_add-to c).Then-one, t.before.loop-c.inv.2.near, below t)
+overflow_add-to c = omega (arith, levels (goal.at.overflow_add-to c).Then-one, c.loop-c.invariant.2.near, below (goal.at.overflow_add-to c).In-loop-c)
 
 pub loop-c-preserved : goal.loop-c-preserved
 loop-c-preserved c =
-    let a = (start c).args in
+    let a = c.args in
     let l = c.loop-c in
     let one = c.component-one in (
-      omega (arith, c.loop-c-test.taken),
-      rw (c.after-places.ensures, c.uint_max-max_res.ensures, c.joined-all.ensures) (seen_more l.inv.1 one.ensures.0 (small (placed c)) (below c) c.if-one.true),
-      kept_more a.e.now (placed c).of-places.result a.t4 a.kept.now l.inv.2 l.inv.1.at (levels (goal.at.loop-c-preserved c).Then-one) (one.ensures.1 c.if-one.true),
+      omega (arith, c.loop-c-test.true),
+      rw (c.after-places.ensures, c.uint_max-max_res.ensures, c.joined-all.ensures) (seen_more l.invariant.1 one.ensures.sums (small (goal.at.loop-c-preserved c).After-of-places) (below (goal.at.loop-c-preserved c).In-loop-c) c.if-one.true),
+      kept_more a.e.now c.of-places.result a.st a.kept.now l.invariant.2 l.invariant.1.at (levels (goal.at.loop-c-preserved c).Then-one) (one.ensures.keeps c.if-one.true),
     )
 
 pub shape_of-kept-else-one : goal.shape_of-kept-else-one
-shape_of-kept-else-one c = omega (arith, c.component-one.auto, kept_long c.loop-c.inv.2)
+shape_of-kept-else-one c = omega (arith, c.component-one.auto.kept, kept_long c.loop-c.invariant.2)
 
 pub returns-else-one : goal.returns-else-one
 returns-else-one c =
-    let a = (start c).args in
-    let p = (placed c).of-places in record {
+    let a = c.args in
+    let p = c.of-places in record {
       found = c.none-else-one.ensures
-          ∙ sym (survey_in a.e.now a.at a.check a.t4 p.result p.ensures ∙ seen_bad c.loop-c.inv.1 c.component-one.ensures.sums (omega arith) c.if-one.false);
+          ∙ sym (survey_in a.e.now a.at a.check a.st p.result p.ensures ∙ seen_bad c.loop-c.invariant.1 c.component-one.ensures.sums (omega arith) c.if-one.false);
       keeps = keeps_none a.kept.now _ 0 _ _ (ap (λ (f : Findings). f.good) c.none-else-one.ensures);
     }
 
@@ -101,6 +101,6 @@ returns c =
     let a = c.args in
     let p = c.of-places in record {
       found = rw (c.of.ensures, c.agreed-agreed.ensures)
-          (found_is (seen (goal.at.returns c).After-loop-c) (omega arith) ∙ sym (survey_in a.e.now a.at a.check a.t4 p.result p.ensures));
-      keeps = λ g. kept-all a.e.now a.at p.result a.t4 a.kept.now p.ensures (all-passed (goal.at.returns c).After-loop-c) c.loop-c.invariant.2;
+          (found_is (seen (goal.at.returns c).After-loop-c) (omega arith) ∙ sym (survey_in a.e.now a.at a.check a.st p.result p.ensures));
+      keeps = λ g. kept-all a.e.now a.at p.result a.st a.kept.now p.ensures (all-passed (goal.at.returns c).After-loop-c) c.loop-c.invariant.2;
     }

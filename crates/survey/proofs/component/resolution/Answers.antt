@@ -16,15 +16,15 @@ use Rattle.survey.specs.declared.gathered.Gathered.{Gathered}
 use Rattle.survey.proofs.Components.{out_of_range, entry_bad, entry-good}
 use Rattle.survey.proofs.Keeping.{keeps_none}
 use Rattle.survey.proofs.component.resolution.Goals as goal
-use Rattle.survey.proofs.component.resolution.Goals.{After-entry-entry, After-sizes_right-right}
+use Rattle.survey.proofs.component.resolution.Goals.{After-sizes_right-right}
 
 -- after the test: the entry is that of the exponents where they stand
-module _ (c : After-entry-entry) where
+module _ (c : After-sizes_right-right) where
   ranged : exponent_range c.four_at-stands.result.a c.four_at-stands.result.b ≡ true
   ranged = sym c.exponents_in_range.ensures ∙ c.if-not-exponents_in_range.false
 
   entry-is : c.entry-entry.result ≡ entry_from c.args.e.now c.args.at c.args.axes c.args.level
-  entry_is = c.entry-entry.ensures ∙ ap (λ (f : Four). entry_of c.args.axes c.args.level f.a f.b) c.four_at-stands.ensures
+  entry-is = c.entry-entry.ensures ∙ ap (λ (f : Four). entry_of c.args.axes c.args.level f.a f.b) c.four_at-stands.ensures
 
   small : (c.entry-entry.result.pdx < 16) × (c.entry-entry.result.pdy < 16)
   small =
@@ -36,12 +36,12 @@ module _ (c : After-entry-entry) where
 fine-is : (c : After-sizes_right-right) → let a = c.args in entry_fine a.e.now a.at a.check a.axes a.level ≡ c.sizes_right-right.result
 unfolding entry_fine
 fine-is c =
-    let a = (start c).args in
-    rw (rw c.four_at-stands.ensures at (ranged c.before))
+    let a = c.args in
+    rw (rw c.four_at-stands.ensures at (ranged c))
     (sym
     (c.sizes_right-right.ensures
     ∙ ap (λ (f : Four). sizes_in f a.check c.entry-entry.result.width c.entry-entry.result.height) c.four_at-stands.ensures
-    ∙ ap (λ (n : Entry). sizes_at a.e.now a.at a.check n.width n.height) (entry-is c.before)))
+    ∙ ap (λ (n : Entry). sizes_at a.e.now a.at a.check n.width n.height) (entry-is c)))
 
 pub returns-then-not-exponents_in_range : goal.returns-then-not-exponents_in_range
 returns-then-not-exponents_in_range c =
@@ -50,15 +50,15 @@ returns-then-not-exponents_in_range c =
 
 pub with-requires : goal.with-requires
 with-requires c =
-    (c.requires.0, (small (goal.at.with-requires c).After-entry-entry).0, (small (goal.at.with-requires c).After-entry-entry).1)
+    (c.requires.0, (small (goal.at.with-requires c).After-sizes_right-right).0, (small (goal.at.with-requires c).After-sizes_right-right).1)
 
 pub returns-then-right : goal.returns-then-right
 returns-then-right c =
     let a = c.args in record {
       gathered = c.with.ensures
-          ∙ ap (with_entry a.held a.level) (entry-is (goal.at.returns-then-right c).After-entry-entry)
+          ∙ ap (with_entry a.held a.level) (entry-is (goal.at.returns-then-right c).After-sizes_right-right)
           ∙ sym (entry-good a.e.now a.at a.check a.axes a.level a.held (fine-is (goal.at.returns-then-right c).After-sizes_right-right ∙ c.if-right.true));
-      keeps = λ g. c.keep.ensures ∙ ap (λ (n : Entry). put_numbers a.kept.now a.to (words_of n)) (entry-is (goal.at.returns-then-right c).After-entry-entry);
+      keeps = λ g. c.keep.ensures ∙ ap (λ (n : Entry). put_numbers a.kept.now a.to (words_of n)) (entry-is (goal.at.returns-then-right c).After-sizes_right-right);
     }
 
 pub returns-else-right : goal.returns-else-right

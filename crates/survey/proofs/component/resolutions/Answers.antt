@@ -16,7 +16,7 @@ use Rattle.survey.proofs.component.resolutions.Goals.{At-loop-r, In-loop-r}
 next-near : (c : In-loop-r) → exponents_at c.args.places c.loop-r.r + c.args.places.apart ≤ exponents_at c.args.places c.args.n
 next-near c = place_within c.args.places c.loop-r.r c.args.n c.loop-r-test.true
 
-long : (c : At-loop-r) → length c.loop-r.auto ≡ length c.args.kept.now
+long : (c : At-loop-r) → length c.loop-r.kept ≡ length c.args.kept.now
 long c = ap length c.loop-r.invariant.2 ∙ put-length _ c.args.kept.now c.args.to
 
 pub loop-r-init : goal.loop-r-init
@@ -39,12 +39,12 @@ loop-r-preserved c =
     let l = c.loop-r in
     let w = c.resolution-all in (
       omega arith,
-      taken_more l.invariant.1 w.ensures.0 c.if-all.true,
-      w.ensures.1 c.if-all.true ∙ rw (l.invariant.2, l.invariant.1.there) (words_more a.e.now (exponents_at a.places) a.axes a.n a.kept.now a.to l.r),
+      taken_more l.invariant.1 w.ensures.gathered c.if-all.true,
+      w.ensures.keeps c.if-all.true ∙ rw (l.invariant.2, l.invariant.1.there) (words_more a.e.now (exponents_at a.places) a.axes a.n a.kept.now a.to l.r),
     )
 
 pub shape_of-kept-else-all : goal.shape_of-kept-else-all
-shape_of-kept-else-all c = omega (arith, c.resolution-all.auto, long (goal.at.shape_of-kept-else-all c).At-loop-r)
+shape_of-kept-else-all c = omega (arith, c.resolution-all.auto.kept, long (goal.at.shape_of-kept-else-all c).At-loop-r)
 
 pub returns-else-all : goal.returns-else-all
 returns-else-all c =
@@ -58,5 +58,5 @@ pub returns : goal.returns
 returns c =
     let l = c.loop-r in
     let end : l.r ≡ c.args.n = omega arith in
-    let stepped : Stepped c.args.axes = record { x_above = c.requires.2; x_fits = omega (arith, c.good); y_above = c.requires.3; y_fits = omega (arith, c.good) } in
+    let stepped : Stepped c.args.axes = record { x_above = c.requires.2; x_fits = omega (arith, c.well_formed); y_above = c.requires.3; y_fits = omega (arith, c.well_formed) } in
     record { sums = c.sums.ensures ∙ taken-all l.invariant.1 stepped end; keeps = λ g. rw end at l.invariant.2 }

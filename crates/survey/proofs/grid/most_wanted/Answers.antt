@@ -19,7 +19,7 @@ loop-k-init c = (omega arith, omega arith, sym (max_none (λ i. want_for (change
 
 -- the array has 32 places
 long : (c : Start) → length c.args.st.changes ≡ 32
-long c = simp length-map at c.well_formed.0.1.1.1.1.1.1.1.1.1.1.1.1.0.1.0.1
+long c = c.well_formed.0.1.1.1.1.1.1.1.1.1.1.1.1.0.1.0.1
 
 pub loop-k-preserved : goal.loop-k-preserved
 loop-k-preserved c =

@@ -16,7 +16,7 @@ loop-k-init c = (omega arith, omega arith, all_none _)
 
 -- the array has 32 places
 long : (c : Start) → length c.args.st.changes ≡ 32
-long c = simp length-map at c.well_formed.0.1.1.1.1.1.1.1.1.1.1.1.1.0.1.0.1
+long c = c.well_formed.0.1.1.1.1.1.1.1.1.1.1.1.1.0.1.0.1
 
 pub loop-k-preserved : goal.loop-k-preserved
 loop-k-preserved c =
@@ -28,11 +28,11 @@ returns-else-range_fits c =
     let a = c.args in
     let l = c.loop-k in
     sym
-    (sym (fit_up_to a.t1 (long (goal.at.returns-else-range_fits c).Start) a.fits.now)
-    ∙ all_fails (λ i. range_fits a.t1 a.fits.now (change_of a.t1 i)) (min a.t1.progressions 32) l.k (omega arith) (sym c.range_fits.ensures ∙ c.if-range_fits.false))
+    (sym (fit_up_to a.st (long (goal.at.returns-else-range_fits c).Start) a.fits.now)
+    ∙ all_fails (λ i. range_fits a.st a.fits.now (change_of a.st i)) (min a.st.progressions 32) l.k (omega arith) (sym c.range_fits.ensures ∙ c.if-range_fits.false))
 
 pub returns : goal.returns
 returns c =
     let a = c.args in
-    let end : c.loop-k.k ≡ min a.t1.progressions 32 = omega arith in
-    sym (rw end at c.loop-k.invariant.2) ∙ fit_up_to a.t1 (long (goal.at.returns c).Start) a.fits.now
+    let end : c.loop-k.k ≡ min a.st.progressions 32 = omega arith in
+    sym (rw end at c.loop-k.invariant.2) ∙ fit_up_to a.st (long (goal.at.returns c).Start) a.fits.now
