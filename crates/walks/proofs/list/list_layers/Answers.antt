@@ -22,8 +22,8 @@ list_packet-count-requires c =
 
 pub ls-preserved : goal.ls-preserved
 ls-preserved c =
-    let h = c.ls-test.taken in
-    one-listed _ _ _ _ _ _ c.ls.inv _ _ _ (λ s g d. (in_l s g _ _ _ _ _ _ (omega (arith, h, d.ranged.layno1)), layer_is s g _ _ _ _ _ _ _ d _ h)) (search rules) (search rules)
+    let h = c.ls-test.true in
+    one-listed _ _ _ _ _ _ c.ls.invariant _ _ _ (λ s g d. (in_l s g _ _ _ _ _ _ (omega (arith, h, d.ranged.layno1)), layer_is s g _ _ _ _ _ _ _ d _ h)) (search rules) (search rules)
     (rw c.in_layer.ensures at c.list_packet-count.ensures)
 
 pub shape_of-marks : goal.shape_of-marks
