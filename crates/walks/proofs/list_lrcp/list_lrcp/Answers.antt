@@ -39,7 +39,7 @@ pub rs-preserved : goal.rs-preserved
 rs-preserved c =
     let i = c.rs.invariant.1 in (
       omega (arith, c.rs.invariant.0),
-      part_listed _ _ _ _ _ _ i (level _ _ _ _) _ (λ s g h. in_r s g _ _ _ h _ _ _ _ c.rs-test.true) c.marks.given c.output.given
+      part_listed _ _ _ _ _ _ i (level _ _ _ _) _ (λ s g h. in_r s g _ _ _ h _ _ _ _ c.rs-test.true) c.list_level-count.auto.marks c.list_level-count.auto.output
           (λ s g h. c.list_level-count.ensures s g (counted_long s g _ _ _ _ i.long h)),
     )
 

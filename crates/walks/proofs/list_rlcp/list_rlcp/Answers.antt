@@ -38,7 +38,7 @@ list_level-count-requires c =
 pub ls-preserved : goal.ls-preserved
 ls-preserved c =
     let i = c.ls.invariant in
-    part_listed _ _ _ _ _ _ i (level _ _ _ _) _ (λ s g h. in_l s g _ _ _ h _ _ _ _ c.ls-test.true) c.marks.given c.output.given
+    part_listed _ _ _ _ _ _ i (level _ _ _ _) _ (λ s g h. in_l s g _ _ _ h _ _ _ _ c.ls-test.true) c.list_level-count.auto.marks c.list_level-count.auto.output
     (λ s g h. c.list_level-count.ensures s g (counted_long s g _ _ _ _ i.long h))
 
 pub rs-preserved : goal.rs-preserved
