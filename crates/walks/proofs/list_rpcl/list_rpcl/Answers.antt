@@ -32,7 +32,7 @@ rs-preserved c =
     let listed = c.list_pcrl-count.ensures in (
       omega (arith, i.0),
       listed.0,
-      part_listed _ _ _ _ _ _ i.2 (λ s g. pcrl.wholly one.result s (alone g r)) _ (λ s g h. rw one.ensures (one-left s g _ _ _ h r i.0 t _ _ _ _)) c.marks.given c.output.given
+      part_listed _ _ _ _ _ _ i.2 (λ s g. pcrl.wholly one.result s (alone g r)) _ (λ s g h. rw one.ensures (one-left s g _ _ _ h r i.0 t _ _ _ _)) c.list_pcrl-count.auto.marks c.list_pcrl-count.auto.output
           (λ s g h. listed.1 s (alone g r) (rw one.ensures (ready_long _ _ _ _ _ _ i.2.long (ready-alone _ _ _ _ _ h r i.0 t)))),
     )
 
