@@ -1,7 +1,6 @@
 -- `list_layers`: a turn lists the next layer (`one-listed`). Assumes nothing.
 use Rattle.std.proofs.Common.{rules}
 use mathlib.Core.Path.{refl}
-use Prim.Native.Nat.{◌-◌}
 use native.Mathlib.Omega.{arith}
 use Rattle.walks.specs.AtPoint.{in_l, out_l}
 use Rattle.walks.specs.Listing.{first-listed, one-listed, listed-few, all-listed}

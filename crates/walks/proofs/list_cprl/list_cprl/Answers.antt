@@ -1,12 +1,11 @@
 -- `list_cprl` meets its contract: the run's end from the components that are left is that from all of them. A turn is the law `one-left` of specs/Cprl: one
 -- component is listed by PCRL. Assumes nothing.
 use mathlib.Core.Path.{refl}
-use Prim.Native.Nat.{◌-◌}
 use native.Mathlib.Omega.{arith}
 use Rattle.walks.specs.Walk.{ready_long}
 use Rattle.walks.specs.Listing.{first-listed, part_listed, few_part, all-listed}
 use Rattle.walks.specs.Pcrl as pcrl
-use Rattle.walks.specs.Cprl.{wholly, alone, none_left, ready-alone, one-left}
+use Rattle.walks.specs.Cprl.{alone, none_left, ready-alone, one-left}
 use Rattle.walks.proofs.list_cprl.list_cprl.Goals as goal
 
 pub cs-init : goal.cs-init

@@ -1,7 +1,6 @@
 -- `list_lrcp` meets its contract: the run's end from what is left at each of the two loops is that from what was left where the loop began (`Kept`). A turn is
 -- one law of specs/Lrcp: one resolution of one layer is listed (`list_level`). Assumes nothing.
 use mathlib.Core.Path.{refl}
-use Prim.Native.Nat.{◌-◌}
 use native.Mathlib.Omega.{arith}
 use Rattle.walks.specs.Walk.{counted_long}
 use Rattle.walks.specs.Listing.{first-listed, goes_on, then_listed, part_listed, few_part, all-listed}

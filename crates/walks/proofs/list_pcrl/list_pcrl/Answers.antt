@@ -1,7 +1,7 @@
 -- `list_pcrl` meets its contract. Each of the two loops keeps one thing, for every sheet and range that the listing is ready for (`Kept`): the run's end from
 -- what is left at this loop is that from what was left where the loop began. So a turn is one law of specs/Pcrl, as in the walk's proof. Assumes nothing.
 use mathlib.Core.Path.{◌≡◌, refl, sym}
-use Prim.Native.Nat.{◌-◌, ◌<◌}
+use Prim.Native.Nat.{◌<◌}
 use native.Mathlib.Omega.{arith}
 use Rattle.packets.specs.Tile.{Sheet}
 use Rattle.types.specs.declared.order.Range.{Range}
@@ -9,7 +9,6 @@ use Rattle.types.specs.State.{origin}
 use Rattle.packets.specs.Strided.{everything}
 use Rattle.packets.specs.InPlay.{next_x, next_y}
 use Rattle.walks.specs.Prepared.{point_of}
-use Rattle.walks.specs.InRow.{AtRow}
 use Rattle.walks.specs.Walk.{Ready, ready_long}
 use Rattle.walks.specs.Turns.{at_row}
 use Rattle.walks.specs.Layers.{Pointed, pointed_long}

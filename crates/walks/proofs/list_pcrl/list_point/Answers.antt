@@ -1,7 +1,6 @@
 -- `list_point`: the run's end from what is left at each loop is that from what was left where the loop began (`Kept`), and x + best is the least next multiple of
 -- what the loops have passed (`NearestBefore`, `NearestSeen`). Assumes nothing.
 use mathlib.Core.Path.{refl}
-use Prim.Native.Nat.{◌-◌, ◌<◌}
 use native.Mathlib.Omega.{arith}
 use Rattle.walks.specs.Nexts.{nearest_first, nearest_enter, nearest_turn, nearest_leave, nearest_all}
 use Rattle.walks.specs.RowLaws.{point_part}

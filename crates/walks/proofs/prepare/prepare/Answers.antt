@@ -1,6 +1,5 @@
 -- `prepare`: so far the numbers of the components passed are right, and no others were written; the entries of the next stand from number base on. Assumes nothing.
 use mathlib.Core.Path.{◌≡◌, sym}
-use Prim.Native.Nat.{◌-◌}
 use native.Mathlib.Omega.{arith}
 use Rattle.packets.specs.Table.{sheet_at}
 use Rattle.walks.specs.Filling.{none_all_done, entries_none, entries_more, all_more}

@@ -1,7 +1,6 @@
 -- `list_all`: the precincts are counted; then what is left to be listed leads to the end that was to be reached at entry (`KeptAll`), also where the rest is
 -- handed on. Assumes nothing.
 use mathlib.Core.Path.{refl, sym, ◌∙◌}
-use Prim.Native.Nat.{◌-◌}
 use native.Mathlib.Omega.{arith}
 use Rattle.walks.specs.Counting.{sound-entries, sound-counts}
 use Rattle.walks.specs.Taking.{cleared}

@@ -1,6 +1,5 @@
 -- `list_rest`: the numbers are prepared; then what is left to be listed leads to the end that was to be reached at entry (`KeptAll`). Assumes nothing.
 use mathlib.Core.Path.{refl}
-use Prim.Native.Nat.{◌-◌}
 use native.Mathlib.Omega.{arith}
 use Rattle.walks.specs.FromSound.{AllFilled, sound-components, sound-filled}
 use Rattle.walks.specs.Taking.{cleared}
