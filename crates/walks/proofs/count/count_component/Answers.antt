@@ -1,6 +1,5 @@
 -- `count_component`: so far the counts of the resolutions passed are right, and no others were written. Assumes nothing.
 use mathlib.Core.Path.{◌≡◌}
-use Prim.Native.Nat.{◌-◌}
 use native.Mathlib.Omega.{arith}
 use Rattle.walks.specs.Counting.{none_written, more_written}
 use Rattle.walks.proofs.count.count_component.Goals as goal

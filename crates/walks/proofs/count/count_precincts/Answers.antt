@@ -1,6 +1,5 @@
 -- `count_precincts`: so far the counts of the components passed are right, and no others were written; the entries of the next stand from number base on. Assumes nothing.
 use mathlib.Core.Path.{◌≡◌, sym}
-use Prim.Native.Nat.{◌-◌}
 use native.Mathlib.Omega.{arith}
 use Rattle.walks.specs.Filling.{entries_none, entries_more}
 use Rattle.walks.specs.Counting.{none_all_written, more_all_written}

@@ -2,7 +2,6 @@
 -- specs/Counts. Assumes nothing.
 use Rattle.std.proofs.Common.{rules}
 use mathlib.Core.Path.{refl}
-use Prim.Native.Nat.{◌-◌}
 use native.Mathlib.Omega.{arith}
 use Rattle.walks.specs.Walk.{counted_long}
 use Rattle.walks.specs.Listing.{first-listed, goes_on, then_listed, one-listed, listed-few, all-listed}

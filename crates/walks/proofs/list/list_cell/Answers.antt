@@ -22,14 +22,14 @@ list_layers-requires c =
     let d = p.1.1 in
     let cell = c.cell_from.result in
     let e = cell-is (goal.at.list_layers-requires c).After-cell_from _ _ d in
-    let k = c.k.given.1 in
+    let k = c.in-At.is in
     (p.0, (p.1.0, cell-layered _ _ _ _ _ d.ready _ _ _ _ d.stands cell e _ k, rw (cell-left _ _ _ _ _ d.ready _ _ _ _ d.stands cell e _ _ k) at p.1.2))
 
 pub returns-in-At : goal.returns-in-At
 returns-in-At c s g d =
     let cell = c.cell_from.result in
     let e = cell-is (goal.at.returns-in-At c).After-cell_from s g d in
-    let k = c.k.given.1 in
+    let k = c.in-At.is in
     c.list_layers.ensures s g (cell-layered s g _ _ _ d.ready _ _ _ _ d.stands cell e _ k)
     ∙ ap (total_of _ _ _ _) (sym (cell-left s g _ _ _ d.ready _ _ _ _ d.stands cell e _ _ k))
 

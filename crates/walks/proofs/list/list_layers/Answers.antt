@@ -1,7 +1,6 @@
 -- `list_layers`: a turn lists the next layer (`one-listed`). Assumes nothing.
 use Rattle.std.proofs.Common.{rules}
 use mathlib.Core.Path.{refl}
-use Prim.Native.Nat.{◌-◌}
 use native.Mathlib.Omega.{arith}
 use Rattle.walks.specs.AtPoint.{in_l, out_l}
 use Rattle.walks.specs.Listing.{first-listed, one-listed, listed-few, all-listed}
@@ -22,8 +21,8 @@ list_packet-count-requires c =
 
 pub ls-preserved : goal.ls-preserved
 ls-preserved c =
-    let h = c.ls-test.taken in
-    one-listed _ _ _ _ _ _ c.ls.inv _ _ _ (λ s g d. (in_l s g _ _ _ _ _ _ (omega (arith, h, d.ranged.layno1)), layer_is s g _ _ _ _ _ _ _ d _ h)) (search rules) (search rules)
+    let h = c.ls-test.true in
+    one-listed _ _ _ _ _ _ c.ls.invariant _ _ _ (λ s g d. (in_l s g _ _ _ _ _ _ (omega (arith, h, d.ranged.layno1)), layer_is s g _ _ _ _ _ _ _ d _ h)) (search rules) (search rules)
     (rw c.in_layer.ensures at c.list_packet-count.ensures)
 
 pub shape_of-marks : goal.shape_of-marks

@@ -1,12 +1,11 @@
 -- `list_cprl` meets its contract: the run's end from the components that are left is that from all of them. A turn is the law `one-left` of specs/Cprl: one
 -- component is listed by PCRL. Assumes nothing.
 use mathlib.Core.Path.{refl}
-use Prim.Native.Nat.{◌-◌}
 use native.Mathlib.Omega.{arith}
 use Rattle.walks.specs.Walk.{ready_long}
 use Rattle.walks.specs.Listing.{first-listed, part_listed, few_part, all-listed}
 use Rattle.walks.specs.Pcrl as pcrl
-use Rattle.walks.specs.Cprl.{wholly, alone, none_left, ready-alone, one-left}
+use Rattle.walks.specs.Cprl.{alone, none_left, ready-alone, one-left}
 use Rattle.walks.proofs.list_cprl.list_cprl.Goals as goal
 
 pub cs-init : goal.cs-init
@@ -32,7 +31,7 @@ cs-preserved c =
     let listed = c.list_pcrl-count.ensures in (
       omega (arith, i.0),
       listed.0,
-      part_listed _ _ _ _ _ _ i.2 (λ s g. pcrl.wholly one.result s (alone g k)) _ (λ s g h. rw one.ensures (one-left s g _ _ _ h k i.0 t _ _ _ _)) c.marks.given c.output.given
+      part_listed _ _ _ _ _ _ i.2 (λ s g. pcrl.wholly one.result s (alone g k)) _ (λ s g h. rw one.ensures (one-left s g _ _ _ h k i.0 t _ _ _ _)) c.list_pcrl-count.auto.marks c.list_pcrl-count.auto.output
           (λ s g h. listed.1 s (alone g k) (rw one.ensures (ready_long _ _ _ _ _ _ i.2.long (ready-alone _ _ _ _ _ h k i.0 t)))),
     )
 

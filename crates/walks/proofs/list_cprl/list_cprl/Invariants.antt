@@ -5,7 +5,6 @@ use Prim.Native.Nat.{◌-◌, ◌≤◌}
 use lib.ListN.{length}
 use Rattle.walks.specs.Walk.{Ready}
 use Rattle.walks.specs.Listing.{Listing}
-use Rattle.walks.specs.Pcrl as pcrl
 use Rattle.walks.specs.Cprl.{wholly, on_from}
 use Rattle.walks.proofs.list_cprl.list_cprl.Given as goal
 

@@ -1,7 +1,6 @@
 -- `list_lrcp` meets its contract: the run's end from what is left at each of the two loops is that from what was left where the loop began (`Kept`). A turn is
 -- one law of specs/Lrcp: one resolution of one layer is listed (`list_level`). Assumes nothing.
 use mathlib.Core.Path.{refl}
-use Prim.Native.Nat.{◌-◌}
 use native.Mathlib.Omega.{arith}
 use Rattle.walks.specs.Walk.{counted_long}
 use Rattle.walks.specs.Listing.{first-listed, goes_on, then_listed, part_listed, few_part, all-listed}
@@ -39,7 +38,7 @@ pub rs-preserved : goal.rs-preserved
 rs-preserved c =
     let i = c.rs.invariant.1 in (
       omega (arith, c.rs.invariant.0),
-      part_listed _ _ _ _ _ _ i (level _ _ _ _) _ (λ s g h. in_r s g _ _ _ h _ _ _ _ c.rs-test.true) c.marks.given c.output.given
+      part_listed _ _ _ _ _ _ i (level _ _ _ _) _ (λ s g h. in_r s g _ _ _ h _ _ _ _ c.rs-test.true) c.list_level-count.auto.marks c.list_level-count.auto.output
           (λ s g h. c.list_level-count.ensures s g (counted_long s g _ _ _ _ i.long h)),
     )
 

@@ -1,7 +1,7 @@
 -- `list_pcrl` meets its contract. Each of the two loops keeps one thing, for every sheet and range that the listing is ready for (`Kept`): the run's end from
 -- what is left at this loop is that from what was left where the loop began. So a turn is one law of specs/Pcrl, as in the walk's proof. Assumes nothing.
 use mathlib.Core.Path.{◌≡◌, refl, sym}
-use Prim.Native.Nat.{◌-◌, ◌<◌}
+use Prim.Native.Nat.{◌<◌}
 use native.Mathlib.Omega.{arith}
 use Rattle.packets.specs.Tile.{Sheet}
 use Rattle.types.specs.declared.order.Range.{Range}
@@ -9,7 +9,6 @@ use Rattle.types.specs.State.{origin}
 use Rattle.packets.specs.Strided.{everything}
 use Rattle.packets.specs.InPlay.{next_x, next_y}
 use Rattle.walks.specs.Prepared.{point_of}
-use Rattle.walks.specs.InRow.{AtRow}
 use Rattle.walks.specs.Walk.{Ready, ready_long}
 use Rattle.walks.specs.Turns.{at_row}
 use Rattle.walks.specs.Layers.{Pointed, pointed_long}
@@ -17,23 +16,18 @@ use Rattle.walks.specs.Listing.{first-listed, goes_on, then_listed, part_listed,
 use Rattle.walks.specs.Pcrl.{wholly, point, left_x, in_y, out_y, in_x, out_x, column_is, row_is}
 use Rattle.walks.proofs.list_pcrl.list_pcrl.Invariants.{Kept}
 use Rattle.walks.proofs.list_pcrl.list_pcrl.Goals as goal
-use Rattle.walks.proofs.list_pcrl.list_pcrl.Goals.{After-fill_row-below, After-list_point-passed, In-xs, In-ys}
-
--- the row of what is in play, for every sheet that the listing is ready for
-row_here : (c : In-ys) (s : Sheet) (g : Range)
-    → (let a = c.args in Ready s g a.prep.now a.w a.marks.now → AtRow s a.prep.now a.w.resno0 a.w.resno1 a.w.compno0 a.w.compno1 c.ys.y)
-row_here c s g h = at_row s g _ _ _ h _ c.ys.invariant.0 c.ys-test.true
+use Rattle.walks.proofs.list_pcrl.list_pcrl.Goals.{After-fill_row-below, After-list_point-passed, In-xs}
 
 -- the next row; and it is further down
 below-is : (c : After-fill_row-below) (s : Sheet) (g : Range)
     → (let a = c.args in let y = c.ys.y in Ready s g a.prep.now a.w a.marks.now → (c.fill_row-below.result ≡ next_y s g everything origin y) × (y < c.fill_row-below.result))
-below-is c s g h = row_is s g _ _ _ h _ _ (c.fill_row-below.ensures.1 s (row_here c.before.before s g h)).1
+below-is c s g h = row_is s g _ _ _ h _ _ (c.fill_row-below.ensures.1 s (at_row s g _ _ _ h _ c.ys.invariant.0 c.ys-test.true)).1
 
 -- the point at which the loops stand
 pointed : (c : In-xs) (s : Sheet) (g : Range)
     → (let a = c.args in Ready s g a.prep.now a.w a.marks.now → Pointed s g a.prep.now c.fill_row-below.new.row a.w a.marks.now c.xs.x c.ys.y)
 pointed c s g h =
-    let r = row_here c.before.before.before.before s g h in
+    let r = at_row s g _ _ _ h _ c.ys.invariant.0 c.ys-test.true in
     record {
       ready = h;
       point = record {
@@ -61,7 +55,7 @@ pointed-now c s g h = pointed_long s g _ _ _ _ _ _ (pointed c s g h) _ (at-xs c)
 -- the next column; and it is further to the right
 next-is : (c : After-list_point-passed) (s : Sheet) (g : Range)
     → (let a = c.args in let x = c.xs.x in Ready s g a.prep.now a.w a.marks.now → (c.list_point-passed.result.next ≡ next_x s g everything (point_of 0 0 0 c.ys.y) x) × (x < c.list_point-passed.result.next))
-next-is c s g h = column_is s g _ _ _ h _ _ _ (c.list_point-passed.ensures s g (pointed-now c.before.before.before.before s g h)).1
+next-is c s g h = column_is s g _ _ _ h _ _ _ (c.list_point-passed.ensures s g (pointed-now c.before.before.before s g h)).1
 
 pub ys-init : goal.ys-init
 ys-init c = (omega arith, c.requires.0, first-listed _ _ _ _ _ _ (λ s g h. refl))
@@ -69,7 +63,7 @@ ys-init c = (omega arith, c.requires.0, first-listed _ _ _ _ _ _ (λ s g h. refl
 pub fill_row-below-requires : goal.fill_row-below-requires
 fill_row-below-requires c =
     let p = c.requires.1 in
-    (c.ys.invariant.1, c.ys-test.true, (p.0, row_here (goal.at.fill_row-below-requires c).In-ys p.0 p.1.0 p.1.1))
+    (c.ys.invariant.1, c.ys-test.true, (p.0, at_row _ _ _ _ _ p.1.1 _ c.ys.invariant.0 c.ys-test.true))
 
 pub xs-init : goal.xs-init
 xs-init c = (omega arith, first-listed _ _ _ _ _ _ (λ s g h. refl))
@@ -89,8 +83,8 @@ list_point-passed-requires c =
 
 pub xs-smaller : goal.xs-smaller
 xs-smaller c =
-    let p = (entered c).pre.1 in
-    omega (arith, c.xs-test.taken, (next-is (goal.at.xs-smaller c).After-list_point-passed p.0 p.1.0 p.1.1).1)
+    let p = c.requires.1 in
+    omega (arith, c.xs-test.true, (next-is (goal.at.xs-smaller c).After-list_point-passed p.0 p.1.0 p.1.1).1)
 
 pub xs-preserved : goal.xs-preserved
 xs-preserved c =
@@ -102,7 +96,7 @@ xs-preserved c =
       omega (arith, i.0, (next-is (goal.at.xs-preserved c).After-list_point-passed p.0 p.1.0 p.1.1).1),
       part_listed _ _ _ _ _ _ i.1 (point _ _ _ _ _) _
           (λ s g h. rw (next-is (goal.at.xs-preserved c).After-list_point-passed s g (from s g h)).0 (in_x s g _ _ _ h _ _ _ _ _ o.0 c.ys-test.true i.0 c.xs-test.true))
-          c.marks.given c.output.given
+          c.list_point-passed.auto.marks c.list_point-passed.auto.output
           (λ s g h. (c.list_point-passed.ensures s g (pointed-now (goal.at.xs-preserved c).In-xs s g (from s g h))).0),
     )
 

@@ -1,7 +1,6 @@
 -- `list_point`: the run's end from what is left at each loop is that from what was left where the loop began (`Kept`), and x + best is the least next multiple of
 -- what the loops have passed (`NearestBefore`, `NearestSeen`). Assumes nothing.
 use mathlib.Core.Path.{refl}
-use Prim.Native.Nat.{◌-◌, ◌<◌}
 use native.Mathlib.Omega.{arith}
 use Rattle.walks.specs.Nexts.{nearest_first, nearest_enter, nearest_turn, nearest_leave, nearest_all}
 use Rattle.walks.specs.RowLaws.{point_part}
@@ -11,11 +10,7 @@ use Rattle.walks.specs.Layers.{pointed_long, pointed-cell}
 use Rattle.walks.specs.Pcrl.{point, left_r, in_c, out_c, in_r, out_r}
 use Rattle.walks.proofs.list_pcrl.list_point.Invariants.{Kept}
 use Rattle.walks.proofs.list_pcrl.list_point.Goals as goal
-use Rattle.walks.proofs.list_pcrl.list_point.Goals.{After-struct_known-1, In-rs}
-
--- the point is in the tile
-before-end : (c : After-struct_known-1) → c.args.x < c.args.w.tx1
-before-end c = let d = c.requires.1.1 in rw d.ready.ranged.tx1 d.point.right
+use Rattle.walks.proofs.list_pcrl.list_point.Goals.{In-rs}
 
 -- from the whole to what is left where the inner loop stands
 at-rs : (c : In-rs)
@@ -28,10 +23,12 @@ at-rs c =
     then_listed _ _ _ _ _ (goes_on _ _ _ _ _ _ o _ (λ s g h. in_c s g _ _ _ h.ready _ _ _ _ _ c.cs-test.true)) c.rs.invariant.2 (λ s g h. pointed_long s g _ _ _ _ _ _ h _ o.long)
 
 pub overflow_sub-best : goal.overflow_sub-best
-overflow_sub-best c = omega (arith, before-end (goal.at.overflow_sub-best c).After-struct_known-1)
+overflow_sub-best c = let d = c.requires.1.1 in omega (arith, d.ready.ranged.tx1, d.point.right)
 
 pub cs-init : goal.cs-init
-cs-init c = (omega arith, omega arith, first-listed _ _ _ _ _ _ (λ s g h. refl), nearest_first _ _ _ _ _ _ _ _ _ (omega (arith, before-end (goal.at.cs-init c).After-struct_known-1)))
+cs-init c =
+    let d = c.requires.1.1 in
+    (omega arith, omega arith, first-listed _ _ _ _ _ _ (λ s g h. refl), nearest_first _ _ _ _ _ _ _ _ _ (omega (arith, d.ready.ranged.tx1, d.point.right)))
 
 pub rs-init : goal.rs-init
 rs-init c = (omega arith, omega arith, first-listed _ _ _ _ _ _ (λ s g h. refl), nearest_enter c.cs.invariant.3)
@@ -62,17 +59,17 @@ list_cell-count-requires c =
 
 pub rs-preserved : goal.rs-preserved
 rs-preserved c =
-    let i = c.rs.inv in
+    let i = c.rs.invariant in
     let o = c.cs in
-    let rt = c.rs-test.taken in
-    let ct = c.cs-test.taken in
+    let rt = c.rs-test.true in
+    let ct = c.cs-test.true in
     let first = c.number_at-first.ensures in
     let p = c.requires in (
       omega (arith, i.0),
       omega (arith, rt),
-      part_listed _ _ _ _ _ _ i.2 (cell_from _ _ _ _ _) _ (λ s g h. in_r s g _ _ _ h.ready _ _ _ _ _ rt) c.marks.given c.output.given
-          (λ s g h. c.list_cell-count.ensures s g (pointed-cell s g _ _ _ _ _ _ (pointed_long s g _ _ _ _ _ _ h _ i.2.long) _ _ _ first i.0 rt o.inv.0 ct)),
-      nearest_turn _ i.3 i.0 p.0 p.1.1.point (λ s h. c.nearer_from-best.ensures s _ (point_part _ _ _ _ _ _ _ _ _ _ _ _ first h i.0 rt o.inv.0 ct).start),
+      part_listed _ _ _ _ _ _ i.2 (cell_from _ _ _ _ _) _ (λ s g h. in_r s g _ _ _ h.ready _ _ _ _ _ rt) c.list_cell-count.auto.marks c.list_cell-count.auto.output
+          (λ s g h. c.list_cell-count.ensures s g (pointed-cell s g _ _ _ _ _ _ (pointed_long s g _ _ _ _ _ _ h _ i.2.long) _ _ _ first i.0 rt o.invariant.0 ct)),
+      nearest_turn _ i.3 i.0 p.0 p.1.1.point (λ s h. c.nearer_from-best.ensures s _ (point_part _ _ _ _ _ _ _ _ _ _ _ _ first h i.0 rt o.invariant.0 ct).start),
     )
 
 pub cs-preserved : goal.cs-preserved

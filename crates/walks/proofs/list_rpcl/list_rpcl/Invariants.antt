@@ -5,7 +5,6 @@ use Prim.Native.Nat.{◌-◌, ◌≤◌}
 use lib.ListN.{length}
 use Rattle.walks.specs.Walk.{Ready}
 use Rattle.walks.specs.Listing.{Listing}
-use Rattle.walks.specs.Pcrl as pcrl
 use Rattle.walks.specs.Rpcl.{wholly, on_from}
 use Rattle.walks.proofs.list_rpcl.list_rpcl.Given as goal
 

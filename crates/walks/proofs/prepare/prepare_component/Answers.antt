@@ -1,6 +1,5 @@
 -- `prepare_component`: so far the numbers of the resolutions passed are right, and no others were written. Assumes nothing.
 use mathlib.Core.Path.{◌≡◌}
-use Prim.Native.Nat.{◌-◌}
 use native.Mathlib.Omega.{arith}
 use Rattle.walks.specs.Filling.{none_done, entry_in, done_more}
 use Rattle.walks.proofs.prepare.prepare_component.Goals as goal

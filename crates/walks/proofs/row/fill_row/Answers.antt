@@ -1,11 +1,11 @@
 -- `fill_row`: what the two loops have passed is noted, and y + best is the least next multiple of it, for every sheet that is so prepared; at their end all is.
 -- Assumes nothing.
 use mathlib.Core.Path.{◌∙◌}
-use Prim.Native.Nat.{◌+◌, ◌-◌, ◌*◌, ◌<◌}
+use Prim.Native.Nat.{◌+◌, ◌*◌, ◌<◌}
 use native.Mathlib.Omega.{arith}
 use lib.ListN.{length, length-set}
 use Rattle.packets.specs.Tile.{Sheet}
-use Rattle.walks.specs.InRow.{AtRow, Row}
+use Rattle.walks.specs.InRow.{AtRow}
 use Rattle.walks.specs.Turns.{play_part}
 use Rattle.walks.specs.Nexts.{nearest_first, nearest_enter, nearest_turn, nearest_leave, nearest_all}
 use Rattle.walks.specs.RowLaws.{row_part, note_none, note_enter, note_more, note_leave, note_all}

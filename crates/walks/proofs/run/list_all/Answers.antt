@@ -1,7 +1,6 @@
 -- `list_all`: the precincts are counted; then what is left to be listed leads to the end that was to be reached at entry (`KeptAll`), also where the rest is
 -- handed on. Assumes nothing.
 use mathlib.Core.Path.{refl, sym, ◌∙◌}
-use Prim.Native.Nat.{◌-◌}
 use native.Mathlib.Omega.{arith}
 use Rattle.walks.specs.Counting.{sound-entries, sound-counts}
 use Rattle.walks.specs.Taking.{cleared}
@@ -26,10 +25,10 @@ pub list_rest-requires : goal.list_rest-requires
 list_rest-requires c = rest_in c.runs.invariant (counted (goal.at.list_rest-requires c).After-count_precincts)
 
 pub shape_of-marks-then-by_points : goal.shape_of-marks-then-by_points
-shape_of-marks-then-by_points c = c.marks.given ∙ c.runs.invariant.long
+shape_of-marks-then-by_points c = c.list_rest.auto.marks ∙ c.runs.invariant.long
 
 pub shape_of-output-then-by_points : goal.shape_of-output-then-by_points
-shape_of-output-then-by_points c = c.output.given ∙ c.runs.invariant.room
+shape_of-output-then-by_points c = c.list_rest.auto.output ∙ c.runs.invariant.room
 
 pub returns-then-by_points : goal.returns-then-by_points
 returns-then-by_points c = c.list_rest.ensures ∙ sym c.runs.invariant.same
@@ -40,14 +39,14 @@ list_counted-count-requires c =
     (all-run i c.runs-test.true (counted (goal.at.list_counted-count-requires c).After-count_precincts) c.plan_of-plan.ensures, sym c.by_points.ensures ∙ c.if-by_points.false)
 
 pub overflow_add-k : goal.overflow_add-k
-overflow_add-k c = let t = c in omega (arith, (plan_asks _ _ _ t.before.before.before.before.before.before.before.pre _ t.runs-test.taken).0)
+overflow_add-k c = omega (arith, (plan_asks _ _ _ c.requires _ c.runs-test.true).0)
 
 pub runs-preserved : goal.runs-preserved
 runs-preserved c =
-    let i = c.runs.inv in
-    let h = c.runs-test.taken in
-    let d = counted c.before in
-    all-next i h c.marks2.given c.output2.given (c.list_counted-count.ensures _ _ _ (plans i h d c.plan_of-plan.ensures) d.counted)
+    let i = c.runs.invariant in
+    let h = c.runs-test.true in
+    let d = counted (goal.at.runs-preserved c).After-count_precincts in
+    all-next i h c.list_counted-count.auto.marks c.list_counted-count.auto.output (c.list_counted-count.ensures _ _ _ (plans i h d c.plan_of-plan.ensures) d.counted)
 
 pub shape_of-marks : goal.shape_of-marks
 shape_of-marks c = c.runs.invariant.long

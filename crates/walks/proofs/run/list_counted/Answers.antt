@@ -10,13 +10,13 @@ use Rattle.walks.proofs.run.list_counted.Goals as goal
 pub list_lrcp-requires : goal.list_lrcp-requires
 list_lrcp-requires c =
     let p = c.requires.0 in
-    let e = c.enum_told.given.1 in
+    let e = c.in-Lrcp.is in
     (_, (_, planned-counted _ _ _ _ _ p.1.1.1 (some e refl) p.1.1.2, few-of _ _ _ _ _ p.1.1.1 _ e _ p.1.1.3))
 
 pub list_rlcp-requires : goal.list_rlcp-requires
 list_rlcp-requires c =
     let p = c.requires.0 in
-    let e = c.enum-told2.given.1 in
+    let e = c.in-Rlcp.is in
     (_, (_, planned-counted _ _ _ _ _ p.1.1.1 (some e refl) p.1.1.2, few-of _ _ _ _ _ p.1.1.1 _ e _ p.1.1.3))
 
 pub returns-in-Lrcp : goal.returns-in-Lrcp

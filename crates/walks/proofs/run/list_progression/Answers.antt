@@ -9,34 +9,34 @@ use Rattle.walks.proofs.run.list_progression.Goals as goal
 pub list_lrcp-requires : goal.list_lrcp-requires
 list_lrcp-requires c =
     let p = c.requires.1 in
-    let e = c.enum_told.given.1 in
+    let e = c.in-Lrcp.is in
     (_, (_, planned-counted _ _ _ _ _ p.1.1.1 (some e refl) p.1.1.2, few-of _ _ _ _ _ p.1.1.1 _ e _ p.1.1.4))
 
 pub list_rlcp-requires : goal.list_rlcp-requires
 list_rlcp-requires c =
     let p = c.requires.1 in
-    let e = c.enum-told2.given.1 in
+    let e = c.in-Rlcp.is in
     (_, (_, planned-counted _ _ _ _ _ p.1.1.1 (some e refl) p.1.1.2, few-of _ _ _ _ _ p.1.1.1 _ e _ p.1.1.4))
 
 pub list_rpcl-requires : goal.list_rpcl-requires
 list_rpcl-requires c =
     let p = c.requires in
     let q = p.1.1.1 in
-    let e = c.enum-told3.given.1 in
+    let e = c.in-Rpcl.is in
     (p.0, (_, (_, planned-ready _ _ _ _ _ q.1 q.3 (ap by_points e), few-of _ _ _ _ _ q.1 _ e _ q.4)))
 
 pub list_pcrl-requires : goal.list_pcrl-requires
 list_pcrl-requires c =
     let p = c.requires in
     let q = p.1.1.1 in
-    let e = c.enum-told4.given.1 in
+    let e = c.in-Pcrl.is in
     (p.0, (_, (_, planned-ready _ _ _ _ _ q.1 q.3 (ap by_points e), few-of _ _ _ _ _ q.1 _ e _ q.4)))
 
 pub list_cprl-requires : goal.list_cprl-requires
 list_cprl-requires c =
     let p = c.requires in
     let q = p.1.1.1 in
-    let e = c.enum-told5.given.1 in
+    let e = c.in-Cprl.is in
     (p.0, (_, (_, planned-ready _ _ _ _ _ q.1 q.3 (ap by_points e), few-of _ _ _ _ _ q.1 _ e _ q.4)))
 
 pub returns-in-Lrcp : goal.returns-in-Lrcp

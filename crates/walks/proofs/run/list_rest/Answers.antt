@@ -1,6 +1,5 @@
 -- `list_rest`: the numbers are prepared; then what is left to be listed leads to the end that was to be reached at entry (`KeptAll`). Assumes nothing.
 use mathlib.Core.Path.{refl}
-use Prim.Native.Nat.{◌-◌}
 use native.Mathlib.Omega.{arith}
 use Rattle.walks.specs.FromSound.{AllFilled, sound-components, sound-filled}
 use Rattle.walks.specs.Taking.{cleared}
@@ -31,15 +30,15 @@ list_progression-count-requires c =
     (i.0, (_, (_, (_, plans i.1 h d p, d.counted, filled (goal.at.list_progression-count-requires c).After-prepare, run-few i.1 h d p))))
 
 pub overflow_add-k : goal.overflow_add-k
-overflow_add-k c = let t = c in omega (arith, (plan_asks _ _ _ (entered t.before).pre.sound _ t.runs-test.taken).0)
+overflow_add-k c = omega (arith, (plan_asks _ _ _ c.requires.sound _ c.runs-test.true).0)
 
 pub runs-preserved : goal.runs-preserved
 runs-preserved c =
-    let i = c.runs.inv in
-    let h = c.runs-test.taken in
-    let d = (entered c.before).pre in
+    let i = c.runs.invariant in
+    let h = c.runs-test.true in
+    let d = c.requires in
     let f = c.list_progression-count.ensures in
-    (f.0, all-next i.1 h c.marks.given c.output.given (f.1 _ _ _ (plans i.1 h d c.plan_of-plan.ensures) d.counted (filled c.before)))
+    (f.0, all-next i.1 h c.list_progression-count.auto.marks c.list_progression-count.auto.output (f.1 _ _ _ (plans i.1 h d c.plan_of-plan.ensures) d.counted (filled (goal.at.runs-preserved c).After-prepare)))
 
 pub shape_of-marks : goal.shape_of-marks
 shape_of-marks c = c.runs.invariant.1.long
