@@ -18,7 +18,6 @@ use Rattle.walks.specs.Turns.{Stands, at-point, at_row}
 use Rattle.walks.specs.Going.{◌then◌, starts, splits, ends, turns, parts, leaves, passes, finds}
 use Rattle.walks.specs.AtPoint.{packet_of, layers_from, cell_from, out_l}
 use Rattle.walks.specs.Layers.{Layered, layer-fits, layer-read, cell-layered, cell-left, cell-passed}
-use Rattle.walks.specs.Pcrl as pcrl
 use Rattle.walks.specs.Pcrl.{left_r, after_x, in_y, out_y, out_x, column_is, row_is}
 use Rattle.walks.specs.Cprl.{on_from, alone, alone_by, only, none_left, ready-alone, one-left, in_x, in_r, out_r}
 use Rattle.walks.proofs.cprl.cprl.Invariants.{Kept}
@@ -140,12 +139,12 @@ pub rs-preserved : goal.rs-preserved
 rs-preserved c = (
   omega (arith, c.rs.invariant.0),
   elim c.match-cell_at.branch [
-    in-At+else-ls-test w ↦ rw w.found-is (leaves _ _ _ _ _ _ w.ls.invariant (λ s g h. out_l s g _ _ _ _ _ _ (rw h.ranged.layno1 at w.ls-test.false)))
-  | in-Nothing w ↦
-    let i = stands (goal.at.rs-preserved c).In-rs in
-    let d = (goal.at.rs-preserved c).After-cell_at in
-    rw w.found-is
-    (leaves _ _ _ _ _ _ (cell-first d) (λ s g h. cell-passed s g _ _ _ h _ _ _ _ i _ (cell-is d i s g h) _ w.in-Nothing.is))
+    | in-At+else-ls-test w ↦ rw w.found-is (leaves _ _ _ _ _ _ w.ls.invariant (λ s g h. out_l s g _ _ _ _ _ _ (rw h.ranged.layno1 at w.ls-test.false)))
+    | in-Nothing w ↦
+        let i = stands (goal.at.rs-preserved c).In-rs in
+        let d = (goal.at.rs-preserved c).After-cell_at in
+        rw w.found-is
+        (leaves _ _ _ _ _ _ (cell-first d) (λ s g h. cell-passed s g _ _ _ h _ _ _ _ i _ (cell-is d i s g h) _ w.in-Nothing.is))
   ],
 )
 

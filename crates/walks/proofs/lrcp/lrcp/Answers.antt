@@ -4,14 +4,14 @@
 use mathlib.Core.Path.{◌≡◌}
 use mathlib.Core.Bool.{Bool, true, false}
 use mathlib.Core.List.{◌∷◌}
-use Prim.Native.Nat.{◌+◌, ◌-◌}
+use Prim.Native.Nat.{◌+◌}
 use native.Mathlib.Omega.{arith}
 use Rattle.laws.specs.Marks.{free_at}
 use Rattle.packets.specs.Tile.{Sheet, index_of}
 use Rattle.types.specs.declared.order.Range.{Range}
 use Rattle.walks.specs.Walk.{Counted}
-use Rattle.walks.specs.Going.{◌then◌, starts, onward, splits, ends, turns, leaves, passes, finds}
-use Rattle.walks.specs.Counts.{place_of, level, left_k, in_c, out_c, out_k, Stands, held, count_is, mark-fits, mark-read}
+use Rattle.walks.specs.Going.{starts, onward, splits, ends, turns, leaves, passes, finds}
+use Rattle.walks.specs.Counts.{place_of, left_k, in_c, out_c, out_k, Stands, held, count_is, mark-fits, mark-read}
 use Rattle.walks.specs.Lrcp.{in_l, out_l, in_r, out_r}
 use Rattle.walks.proofs.lrcp.lrcp.Goals as goal
 use Rattle.walks.proofs.lrcp.lrcp.Goals.{After-is_free, In-cs}

@@ -18,7 +18,7 @@ use Rattle.walks.specs.Turns.{Stands, at-point, at_row, in_play_lem}
 use Rattle.walks.specs.Going.{◌then◌, starts, onward, splits, ends, turns, parts, leaves, passes, finds}
 use Rattle.walks.specs.AtPoint.{packet_of, layers_from, cell_from, out_l}
 use Rattle.walks.specs.Layers.{Layered, layer-fits, layer-read, cell-layered, cell-left, cell-passed}
-use Rattle.walks.specs.Pcrl.{point, left_r, after_x, in_y, out_y, in_x, out_x, in_c, out_c, in_r, out_r, column_is, row_is}
+use Rattle.walks.specs.Pcrl.{left_r, after_x, in_y, out_y, in_x, out_x, in_c, out_c, in_r, out_r, column_is, row_is}
 use Rattle.walks.proofs.pcrl.pcrl.Invariants.{Kept}
 use Rattle.walks.proofs.pcrl.pcrl.Goals as goal
 use Rattle.walks.proofs.pcrl.pcrl.Goals.{in-At+else-ls-test, in-Nothing, After-cell_at, After-is_free, After-next_column-x, After-next_row-y, In-ls, In-rs, In-search}
@@ -126,12 +126,12 @@ pub rs-preserved : goal.rs-preserved
 rs-preserved c = (
   omega (arith, c.rs.invariant.0),
   elim c.match-cell_at.branch [
-    in-At+else-ls-test w ↦ rw w.found-is (leaves _ _ _ _ _ _ w.ls.invariant (λ s g h. out_l s g _ _ _ _ _ _ (rw h.ranged.layno1 at w.ls-test.false)))
-  | in-Nothing w ↦
-    let i = stands (goal.at.rs-preserved c).In-rs in
-    let d = (goal.at.rs-preserved c).After-cell_at in
-    rw w.found-is
-    (leaves _ _ _ _ _ _ (cell-first d) (λ s g h. cell-passed s g _ _ _ h _ _ _ _ i _ (cell-is d i s g h) _ w.in-Nothing.is))
+    | in-At+else-ls-test w ↦ rw w.found-is (leaves _ _ _ _ _ _ w.ls.invariant (λ s g h. out_l s g _ _ _ _ _ _ (rw h.ranged.layno1 at w.ls-test.false)))
+    | in-Nothing w ↦
+        let i = stands (goal.at.rs-preserved c).In-rs in
+        let d = (goal.at.rs-preserved c).After-cell_at in
+        rw w.found-is
+        (leaves _ _ _ _ _ _ (cell-first d) (λ s g h. cell-passed s g _ _ _ h _ _ _ _ i _ (cell-is d i s g h) _ w.in-Nothing.is))
   ],
 )
 

@@ -139,12 +139,12 @@ pub cs-preserved : goal.cs-preserved
 cs-preserved c = (
   omega (arith, c.cs.invariant.0),
   elim c.match-cell_at.branch [
-    in-At+else-ls-test w ↦ rw w.found-is (leaves _ _ _ _ _ _ w.ls.invariant (λ s g h. out_l s g _ _ _ _ _ _ (rw h.ranged.layno1 at w.ls-test.false)))
-  | in-Nothing w ↦
-    let i = stands (goal.at.cs-preserved c).In-cs in
-    let d = (goal.at.cs-preserved c).After-cell_at in
-    rw w.found-is
-    (leaves _ _ _ _ _ _ (cell-first d) (λ s g h. cell-passed s g _ _ _ h _ _ _ _ i _ (cell-is d i s g h) _ w.in-Nothing.is))
+    | in-At+else-ls-test w ↦ rw w.found-is (leaves _ _ _ _ _ _ w.ls.invariant (λ s g h. out_l s g _ _ _ _ _ _ (rw h.ranged.layno1 at w.ls-test.false)))
+    | in-Nothing w ↦
+        let i = stands (goal.at.cs-preserved c).In-cs in
+        let d = (goal.at.cs-preserved c).After-cell_at in
+        rw w.found-is
+        (leaves _ _ _ _ _ _ (cell-first d) (λ s g h. cell-passed s g _ _ _ h _ _ _ _ i _ (cell-is d i s g h) _ w.in-Nothing.is))
   ],
 )
 
