@@ -8,7 +8,7 @@ use Rattle.walks.specs.Going.{Going, Rest, ◌then◌}
 use Rattle.walks.specs.AtPoint.{layers_from}
 use Rattle.walks.specs.Pcrl as pcrl
 use Rattle.walks.specs.Pcrl.{left_x, left_r, after_x}
-use Rattle.walks.specs.Cprl.{entry, on_from, alone, alone_by, only}
+use Rattle.walks.specs.Cprl.{entry, on_from, alone_by, only}
 use Rattle.walks.specs.declared.walk.Walk.{Walk}
 use Rattle.walks.specs.declared.walk.Found.{Found}
 use Rattle.walks.proofs.cprl.cprl.Given as goal

@@ -4,21 +4,17 @@
 use mathlib.Core.Path.{◌≡◌}
 use mathlib.Core.Bool.{Bool, true, false}
 use mathlib.Core.List.{◌∷◌}
-use Prim.Native.Nat.{◌+◌, ◌-◌}
+use Prim.Native.Nat.{◌+◌}
 use native.Mathlib.Omega.{arith}
 use Rattle.laws.specs.Marks.{free_at}
 use Rattle.packets.specs.Tile.{Sheet, index_of}
 use Rattle.types.specs.declared.order.Range.{Range}
 use Rattle.walks.specs.Walk.{Counted}
-use Rattle.walks.specs.Going.{◌then◌, starts, onward, splits, ends, turns, leaves, passes, finds}
-use Rattle.walks.specs.Counts.{place_of, level, left_k, in_c, out_c, out_k, Stands, held, count_is, mark-fits, mark-read}
+use Rattle.walks.specs.Going.{starts, onward, splits, ends, turns, leaves, passes, finds}
+use Rattle.walks.specs.Counts.{place_of, left_k, in_c, out_c, out_k, Stands, held, count_is, mark-fits, mark-read}
 use Rattle.walks.specs.Lrcp.{in_l, out_l, in_r, out_r}
 use Rattle.walks.proofs.lrcp.lrcp.Goals as goal
 use Rattle.walks.proofs.lrcp.lrcp.Goals.{After-is_free, In-cs}
-
--- the walk is counted for a sheet and a range
-abbrev CountedIn : In-cs → Sheet → Range → Type 0
-CountedIn c s g = let a = c.args in Counted s g a.counts.now a.w a.marks.now
 
 -- the numbers of the loops stand inside the ranges
 stands : (c : In-cs)
@@ -31,17 +27,15 @@ stands c =
     }
 
 -- a precinct is the next, and what is read of its mark is what the sheet's index finds
-read_here : (c : After-is_free) (s : Sheet) (g : Range)
-    → (
-    let l = c.search.l in
+read_here : (c : After-is_free)
+    → (let l = c.search.l in
     let r = c.rs.r in
     let i = c.cs.c in
     let k = c.ks.k in
-    CountedIn c.before.before.before.before.before s g → (t : Bool) → c.is_free.result ≡ t
+    Stands c.args.w l r i → (s : Sheet) (g : Range) → Counted s g c.args.counts.now c.args.w c.args.marks.now → (t : Bool) → c.is_free.result ≡ t
     → (left_k l r i k s g ≡ place_of l r i k ∷ left_k l r i (k + 1) s g) × (free_at c.args.w.viewer c.args.marks.now (index_of s.st (place_of l r i k)) ≡ t))
-read_here c s g h t e =
-    mark-read s g _ _ _ h _ _ _ (stands c.before.before.before.before.before) _ c.number_at-count.ensures _ c.ks-test.true
-    _ _ _ _ c.index-i.ensures c.is_free.ensures e
+read_here c i s g h t e =
+    mark-read s g _ _ _ h _ _ _ i _ c.number_at-count.ensures _ c.ks-test.true _ _ _ _ c.index-i.ensures c.is_free.ensures e
 
 pub search-init : goal.search-init
 search-init c = let p = c.requires.resno0_le_r_from in (p.0, p.1, starts _ _ _ _)
@@ -64,7 +58,7 @@ index-i-requires c =
     mark-fits p.0 p.1.0 _ _ _ p.1.1 _ _ _ (stands (goal.at.index-i-requires c).In-cs) _ c.number_at-count.ensures _ c.ks-test.true
 
 pub ks-preserved : goal.ks-preserved
-ks-preserved c = passes _ _ _ _ _ _ c.ks.invariant _ _ (λ s g h. read_here (goal.at.ks-preserved c).After-is_free s g h false c.if-is_free.false)
+ks-preserved c = passes _ _ _ _ _ _ c.ks.invariant _ _ (λ s g h. read_here (goal.at.ks-preserved c).After-is_free (stands (goal.at.ks-preserved c).In-cs) s g h false c.if-is_free.false)
 
 pub cs-preserved : goal.cs-preserved
 cs-preserved c = (
@@ -89,4 +83,4 @@ returns-after-search c = ends _ _ _ _ _ c.search.invariant.2 (λ s g h. out_l s 
 
 -- left by the break: what is free is found
 pub returns-then-is_free : goal.returns-then-is_free
-returns-then-is_free c = finds _ _ _ _ _ _ c.ks.invariant _ _ (λ s g h. read_here (goal.at.returns-then-is_free c).After-is_free s g h true c.if-is_free.true)
+returns-then-is_free c = finds _ _ _ _ _ _ c.ks.invariant _ _ (λ s g h. read_here (goal.at.returns-then-is_free c).After-is_free (stands (goal.at.returns-then-is_free c).In-cs) s g h true c.if-is_free.true)

@@ -1,5 +1,4 @@
 -- `next_column`: x + best is the least next multiple of what the two loops have passed, for every sheet that is so prepared; at their end of all. Assumes nothing.
-use Prim.Native.Nat.{◌-◌}
 use native.Mathlib.Omega.{arith}
 use Rattle.packets.specs.Tile.{Sheet}
 use Rattle.walks.specs.InRow.{AtRow, RowStart}

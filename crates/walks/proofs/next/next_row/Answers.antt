@@ -1,5 +1,4 @@
 -- `next_row`: y + best is the least next multiple of what the two loops have passed, for every sheet that is so prepared; at their end of all. Assumes nothing.
-use Prim.Native.Nat.{◌-◌}
 use native.Mathlib.Omega.{arith}
 use Rattle.walks.specs.Turns.{play_part}
 use Rattle.walks.specs.Nexts.{nearest_first, nearest_enter, nearest_turn, nearest_leave, nearest_all}

@@ -4,8 +4,7 @@
 use mathlib.Core.Path.{◌≡◌}
 use mathlib.Core.Bool.{Bool, true, false}
 use mathlib.Core.List.{◌∷◌}
-use mathlib.Core.Logic.{⊎_elim}
-use Prim.Native.Nat.{◌+◌, ◌-◌, ◌<◌}
+use Prim.Native.Nat.{◌+◌, ◌<◌}
 use native.Mathlib.Omega.{arith}
 use Rattle.laws.specs.Marks.{free_at}
 use Rattle.types.specs.State.{origin}
@@ -19,18 +18,13 @@ use Rattle.walks.specs.Turns.{Stands, at-point, at_row, in_play_lem}
 use Rattle.walks.specs.Going.{◌then◌, starts, onward, splits, ends, turns, parts, leaves, passes, finds}
 use Rattle.walks.specs.AtPoint.{packet_of, layers_from, cell_from, out_l}
 use Rattle.walks.specs.Layers.{Layered, layer-fits, layer-read, cell-layered, cell-left, cell-passed}
-use Rattle.walks.specs.Pcrl.{point, left_r, after_x, in_y, out_y, in_x, out_x, in_c, out_c, in_r, out_r, column_is, row_is}
+use Rattle.walks.specs.Pcrl.{left_r, after_x, in_y, out_y, in_x, out_x, in_c, out_c, in_r, out_r, column_is, row_is}
 use Rattle.walks.proofs.pcrl.pcrl.Invariants.{Kept}
 use Rattle.walks.proofs.pcrl.pcrl.Goals as goal
-use Rattle.walks.proofs.pcrl.pcrl.Goals.{After-cell_at, After-is_free, After-next_column-x, After-next_row-y, In-ls, In-rs, In-search}
-
--- the walk is ready for a sheet and a range
-abbrev ReadyIn : In-search → Sheet → Range → Type 0
-ReadyIn c s g = let a = c.args in Ready s g a.prep.now a.w a.marks.now
+use Rattle.walks.proofs.pcrl.pcrl.Goals.{in-At+else-ls-test, in-Nothing, After-cell_at, After-is_free, After-next_column-x, After-next_row-y, In-ls, In-rs, In-search}
 
 -- the numbers of the loops stand inside the ranges and the tile
-stands : (c : In-rs)
-    → Stands c.args.w c.rs.r c.cs.c c.xs.x c.search.y
+stands : (c : In-rs) → Stands c.args.w c.rs.r c.cs.c c.xs.x c.search.y
 stands c =
     record {
       res_from = c.rs.invariant.0;
@@ -44,50 +38,45 @@ stands c =
     }
 
 -- what the cell answers, for every sheet that the walk is ready for
-cell-is : (c : After-cell_at) (s : Sheet) (g : Range)
-    → (
-    ReadyIn c s g → c.Cell-at.result ≡ cell_of s c.rs.r c.cs.c c.xs.x c.search.y)
-cell-is c s g h = c.Cell-at.ensures s (at-point s g _ _ _ h _ _ _ _ (stands c.before))
+cell-is : (c : After-cell_at) → Stands c.args.w c.rs.r c.cs.c c.xs.x c.search.y → (s : Sheet) (g : Range)
+    → Ready s g c.args.prep.now c.args.w c.args.marks.now → c.cell_at.result ≡ cell_of s c.rs.r c.cs.c c.xs.x c.search.y
+cell-is c i s g h = c.cell_at.ensures s (at-point s g _ _ _ h _ _ _ _ i)
 
 -- the cell is first of what is left
 cell-first : (c : After-cell_at)
-    → (
-    let a = c.args in
+    → (let a = c.args in
     let x = c.xs.x in
     let y = c.search.y in
     let i = c.cs.c in
     let r = c.rs.r in
-    Kept a.marks.now a.prep.now a.w a.y_from a.x_from a.c-from a.r-from a.l-from c.rs.found
-    (cell_from r i x y c.rs.l-at then left_r a.w y x i (r + 1) 0 then after_x a.w y x))
+    Kept a.marks.now a.prep.now a.w a.y_from a.x_from a.c_from a.r_from a.l_from c.rs.found-1
+    (cell_from r i x y c.rs.l_at then left_r a.w y x i (r + 1) 0 then after_x a.w y x))
 cell-first c = parts _ _ _ _ _ _ c.rs.invariant.1 _ _ (λ s g h. in_r s g _ _ _ h _ _ _ _ _ c.rs-test.true)
 
 -- the precinct that is met is one of the sheet's
-layered : (c : In-ls) (s : Sheet) (g : Range)
-    → (let a = (start (at_y c)).args in
-    ReadyIn (at_y c) s g
-    → Layered s g a.w a.marks.now c.rs.r (at_c c).before.cs.c (at_x c).before.xs.x (at_y c).before.search.y c.k.given.0.0)
-layered c s g h =
-    cell-layered s g _ _ _ h _ _ _ _ (stands c) _ (cell-is c.before.before.before.before.before s g h) _ c.k.given.1
+layered : (c : In-ls) → Stands c.args.w c.rs.r c.cs.c c.xs.x c.search.y → (s : Sheet) (g : Range)
+    → (let a = c.args in
+    Ready s g a.prep.now a.w a.marks.now → Layered s g a.w a.marks.now c.rs.r c.cs.c c.xs.x c.search.y c.in-At.k)
+layered c i s g h = cell-layered s g _ _ _ h _ _ _ _ i _ (c.cell_at.ensures s (at-point s g _ _ _ h _ _ _ _ i)) _ c.in-At.is
 
 -- a layer is the next, and what is read of its mark is what the sheet's index finds
 read_here : (c : After-is_free) (s : Sheet) (g : Range)
     → (let r = c.rs.r in
-    let i = (at_c c).before.cs.c in
-    let x = (at_x c).before.xs.x in
-    let y = (at_y c).before.search.y in
-    let k = c.k.given.0.0 in
+    let i = c.cs.c in
+    let x = c.xs.x in
+    let y = c.search.y in
+    let k = c.in-At.k in
     let l = c.ls.l in
-    ReadyIn (at_y c) s g → (t : Bool) → c.is_free.result ≡ t
+    Layered s g c.args.w c.args.marks.now r i x y k → (t : Bool) → c.is_free.result ≡ t
     → (layers_from r i x y k l s g ≡ packet_of r i x y k l ∷ layers_from r i x y k (l + 1) s g)
-    × (free_at (start (at_y c)).args.w.viewer (start (at_y c)).args.marks.now (index_of s.st (packet_of r i x y k l)) ≡ t))
-read_here c s g h t e =
-    layer-read s g _ _ _ _ _ _ _ (layered c.before.before s g h) _ c.ls-test.true _ _ _ _ c.index-i.ensures c.is_free.ensures e
+    × (free_at c.args.w.viewer c.args.marks.now (index_of s.st (packet_of r i x y k l)) ≡ t))
+read_here c s g h t e = layer-read s g _ _ _ _ _ _ _ h _ c.ls-test.true _ _ _ _ c.index-i.ensures c.is_free.ensures e
 
 -- the next column and row, for every such sheet; and they grow
 column-here : (c : After-next_column-x) (s : Sheet) (g : Range)
-    → (
-    let x = c.xs.x in
-    ReadyIn c.before.before.before.before.before s g → (c.next_column-x.result ≡ next_x s g everything (point_of 0 0 0 c.search.y) x) × (x < c.next_column-x.result))
+    → (let x = c.xs.x in
+    Ready s g c.args.prep.now c.args.w c.args.marks.now
+    → (c.next_column-x.result ≡ next_x s g everything (point_of 0 0 0 c.search.y) x) × (x < c.next_column-x.result))
 column-here c s g h =
     column_is s g _ _ _ h _ _ _ (c.next_column-x.ensures s (at_row s g _ _ _ h _ c.search.invariant.0 c.search-test.true))
 
@@ -95,9 +84,9 @@ column-up : (c : After-next_column-x) → c.xs.x < c.next_column-x.result
 column-up c = let p = c.requires.some_ready in (column-here c p.0 p.1.0 p.1.1).1
 
 row_here : (c : After-next_row-y) (s : Sheet) (g : Range)
-    → (
-    let y = c.search.y in
-    ReadyIn c.before.before.before s g → (c.next_row-y.result ≡ next_y s g everything origin y) × (y < c.next_row-y.result))
+    → (let y = c.search.y in
+    Ready s g c.args.prep.now c.args.w c.args.marks.now
+    → (c.next_row-y.result ≡ next_y s g everything origin y) × (y < c.next_row-y.result))
 row_here c s g h = row_is s g _ _ _ h _ _ (c.next_row-y.ensures s (in_play_lem s g _ _ _ h _ _ _ _ (omega arith) (omega arith) (omega arith) (omega arith)))
 
 row_up : (c : After-next_row-y) → c.search.y < c.next_row-y.result
@@ -125,24 +114,25 @@ cell_at-requires c = let p = c.requires.some_ready in (p.0, at-point p.0 p.1.0 _
 pub ls-init : goal.ls-init
 ls-init c =
     turns _ _ _ _ _ _ (cell-first (goal.at.ls-init c).After-cell_at) _
-    (λ s g h. cell-left s g _ _ _ h _ _ _ _ (stands (goal.at.ls-init c).In-rs) _ (cell-is (goal.at.ls-init c).After-cell_at s g h) _ _ c.k.given.1)
+    (λ s g h. cell-left s g _ _ _ h _ _ _ _ (stands (goal.at.ls-init c).In-rs) _ (cell-is (goal.at.ls-init c).After-cell_at (stands (goal.at.ls-init c).In-rs) s g h) _ _ c.in-At.is)
 
 pub index-i-requires : goal.index-i-requires
-index-i-requires c = let p = c.requires.some_ready in layer-fits _ _ _ _ _ _ _ _ _ (layered (goal.at.index-i-requires c).In-ls p.0 p.1.0 p.1.1) _ c.ls-test.true
+index-i-requires c = let p = c.requires.some_ready in layer-fits _ _ _ _ _ _ _ _ _ (layered (goal.at.index-i-requires c).In-ls (stands (goal.at.index-i-requires c).In-rs) p.0 p.1.0 p.1.1) _ c.ls-test.true
 
 pub ls-preserved : goal.ls-preserved
-ls-preserved c = passes _ _ _ _ _ _ c.ls.invariant _ _ (λ s g h. read_here (goal.at.ls-preserved c).After-is_free s g h false c.if-is_free.false)
+ls-preserved c = passes _ _ _ _ _ _ c.ls.invariant _ _ (λ s g h. read_here (goal.at.ls-preserved c).After-is_free s g (layered (goal.at.ls-preserved c).In-ls (stands (goal.at.ls-preserved c).In-rs) s g h) false c.if-is_free.false)
 
 pub rs-preserved : goal.rs-preserved
 rs-preserved c = (
   omega (arith, c.rs.invariant.0),
-  ⊎_elim
-      (λ w. rw w.5 (leaves _ _ _ _ _ _ w.3.inv (λ s g h. out_l s g _ _ _ _ _ _ (rw h.ranged.layno1 at w.4.left))))
-      (λ w.
-      rw w.2
-      (leaves _ _ _ _ _ _ (cell-first (goal.at.rs-preserved c).After-cell_at)
-      (λ s g h. cell-passed s g _ _ _ h _ _ _ _ (stands (goal.at.rs-preserved c).In-rs) _ (cell-is (goal.at.rs-preserved c).After-cell_at s g h) _ w.1.given.1)))
-      c.match-cell_at.branch,
+  elim c.match-cell_at.branch [
+    | in-At+else-ls-test w ↦ rw w.found-is (leaves _ _ _ _ _ _ w.ls.invariant (λ s g h. out_l s g _ _ _ _ _ _ (rw h.ranged.layno1 at w.ls-test.false)))
+    | in-Nothing w ↦
+        let i = stands (goal.at.rs-preserved c).In-rs in
+        let d = (goal.at.rs-preserved c).After-cell_at in
+        rw w.found-is
+        (leaves _ _ _ _ _ _ (cell-first d) (λ s g h. cell-passed s g _ _ _ h _ _ _ _ i _ (cell-is d i s g h) _ w.in-Nothing.is))
+  ],
 )
 
 pub cs-preserved : goal.cs-preserved
@@ -191,4 +181,4 @@ returns-after-search c = ends _ _ _ _ _ c.search.invariant.4 (λ s g h. out_y s 
 
 -- left by the break: what is free is found
 pub returns-then-is_free : goal.returns-then-is_free
-returns-then-is_free c = finds _ _ _ _ _ _ c.ls.invariant _ _ (λ s g h. read_here (goal.at.returns-then-is_free c).After-is_free s g h true c.if-is_free.true)
+returns-then-is_free c = finds _ _ _ _ _ _ c.ls.invariant _ _ (λ s g h. read_here (goal.at.returns-then-is_free c).After-is_free s g (layered (goal.at.returns-then-is_free c).In-ls (stands (goal.at.returns-then-is_free c).In-rs) s g h) true c.if-is_free.true)

@@ -7,10 +7,10 @@ use Rattle.walks.specs.Search.{some}
 use Rattle.walks.proofs.search.search_counted.Goals as goal
 
 pub lrcp-requires : goal.lrcp-requires
-lrcp-requires c = let w = c.requires in record { some_counted = w.1 (some c.enum_told.given.1 refl); resno0_le_r_from = (w.2.resolution, w.2.component) }
+lrcp-requires c = let w = c.requires in record { some_counted = w.1 (some c.in-Lrcp.is refl); resno0_le_r_from = (w.2.resolution, w.2.component) }
 
 pub rlcp-requires : goal.rlcp-requires
-rlcp-requires c = let w = c.requires in record { some_counted = w.1 (some c.enum-told2.given.1 refl); resno0_le_r_from = (w.2.resolution, w.2.component) }
+rlcp-requires c = let w = c.requires in record { some_counted = w.1 (some c.in-Rlcp.is refl); resno0_le_r_from = (w.2.resolution, w.2.component) }
 
 pub returns-in-Lrcp : goal.returns-in-Lrcp
 returns-in-Lrcp c = λ s g d. rw c.in-Lrcp.is (c.lrcp.ensures s g (d (some c.in-Lrcp.is refl)))

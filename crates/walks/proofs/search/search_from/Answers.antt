@@ -24,7 +24,10 @@ pub prepare-requires : goal.prepare-requires
 prepare-requires c = (refl, sound-components _ _ _ c.requires.0.1.sound)
 
 pub search_points-requires : goal.search_points-requires
-search_points-requires c = let z = c.before in let w = z.requires in let b = points (goal.at.search_points-requires c).Then-by_points in (b, (_, (_, planned-ready _ _ _ _ _ w.0.1 (filled z) b)), w.1)
+search_points-requires c =
+    let w = c.requires in
+    let b = points (goal.at.search_points-requires c).Then-by_points in
+    (b, (_, (_, planned-ready _ _ _ _ _ w.0.1 (filled (goal.at.search_points-requires c).After-prepare) b)), w.1)
 
 pub returns-then-by_points : goal.returns-then-by_points
 returns-then-by_points c = λ k d. c.search_points.ensures _ _ (planned-ready _ _ _ _ _ d (filled (goal.at.returns-then-by_points c).After-prepare) (points (goal.at.returns-then-by_points c).Then-by_points))

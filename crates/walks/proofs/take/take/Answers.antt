@@ -33,17 +33,21 @@ planned c =
     }
 
 -- what the search finds is free for the cursor's viewer
-answer : (c : After-search) → (let a = c.args in
-    answer_of c.search.result ≡ seek a.c.viewer (index_of a.st) a.marks.now (after a.c.place (positions_for a.st a.table.now a.c.progression)))
-answer c =
+answer : (c : After-search)
+    → (let a = c.args in
+    Planned a.st a.table.now a.c.progression c.plan_of-plan.result a.marks.now
+    → answer_of c.search.result ≡ seek a.c.viewer (index_of a.st) a.marks.now (after a.c.place (positions_for a.st a.table.now a.c.progression)))
+answer c d =
     let a = c.args in
-    c.search.ensures _ (planned c.before.before) c.requires.1.admitted
+    c.search.ensures _ d c.requires.1.admitted
     ∙ ap (λ v. seek v (index_of a.st) a.marks.now (after a.c.place (positions_for a.st a.table.now a.c.progression))) (ap (λ (w : Walk). w.viewer) c.plan_of-plan.ensures.1)
 
 -- what is found has its mark among those needed
-found : (c : After-search) (p : Position) → c.search.result ≡ At p
-    → (mark_by c.plan_of-plan.result.walk p ≡ index_of c.args.st p) × (index_of c.args.st p < needed c.args.st)
-found c p e = mark-at _ _ _ _ _ (planned c.before.before) c.args.c.place _ c.search.result p e (answer c)
+found : (c : After-search)
+    → (let a = c.args in
+    Planned a.st a.table.now a.c.progression c.plan_of-plan.result a.marks.now → (p : Position) → c.search.result ≡ At p
+    → (mark_by c.plan_of-plan.result.walk p ≡ index_of a.st p) × (index_of a.st p < needed a.st))
+found c d p e = mark-at _ _ _ _ _ d c.args.c.place _ c.search.result p e (answer c d)
 
 pub plan_of-plan-requires : goal.plan_of-plan-requires
 plan_of-plan-requires c = let w = c.requires in let s = strides_small _ _ _ w.0 in (omega (arith, w.1.named, w.0.tile.progressions.1), s.0, s.1)
@@ -52,17 +56,25 @@ pub search-requires : goal.search-requires
 search-requires c = (_, planned (goal.at.search-requires c).After-plan_of-plan, c.requires.1.admitted)
 
 pub index-requires : goal.index-requires
-index-requires c = let z = c.before in let m = found z _ c.p.given.1 in omega (arith, m.0, m.1, z.requires.0.few)
+index-requires c =
+    let z = goal.at.index-requires c in
+    let m = found z.After-search (planned z.After-plan_of-plan) _ c.in-At.is in
+    omega (arith, m.0, m.1, c.requires.0.few)
 
 pub returns-in-At : goal.returns-in-At
 returns-in-At c =
     let a = c.args in
-    let p = c.p.given.1 in record {
-      found = ap answer_of (sym p) ∙ answer c;
+    let p = c.in-At.is in
+    let z = goal.at.returns-in-At c in
+    let d = planned z.After-plan_of-plan in
+    record {
+      found = ap answer_of (sym p) ∙ answer z.After-search d;
       marked = c.set.ensures
           ∙ set-marks a.c.viewer a.marks.now _ (lt-ltb _ 8 c.requires.1.viewer)
-          ∙ ap (mark_at a.c.viewer a.marks.now) (c.index.ensures ∙ (found c _ p).0);
+          ∙ ap (mark_at a.c.viewer a.marks.now) (c.index.ensures ∙ (found z.After-search d _ p).0);
     }
 
 pub returns-in-Nothing : goal.returns-in-Nothing
-returns-in-Nothing c = record { found = ap answer_of (sym c.in-Nothing.is) ∙ answer (goal.at.returns-in-Nothing c).After-search; marked = refl }
+returns-in-Nothing c =
+    let z = goal.at.returns-in-Nothing c in
+    record { found = ap answer_of (sym c.in-Nothing.is) ∙ answer z.After-search (planned z.After-plan_of-plan); marked = refl }
