@@ -1,0 +1,75 @@
+-- `whole_run`: a refused setup ends it; else what it left is run. Assumes nothing.
+use mathlib.Core.Path.{◌≡◌, ap}
+use mathlib.Core.List.{List}
+use native.Mathlib.Omega.{arith}
+use Prim.Native.Nat.{ℕ}
+use lib.IntN.{pos}
+use mir.Syntax.{w32}
+use mir.ValLaws.{to_z-of_z}
+use Rattle.words.specs.Laws.{Bytes}
+use Rattle.packets.specs.Calls.{run_verdict}
+use Rattle.packets.specs.Meaning.{Sound}
+use Rattle.types.specs.declared.state.State.{State}
+use Rattle.walks.specs.Running.{Total}
+use Rattle.walks.specs.RunAll.{count-few}
+use Rattle.calls.specs.Whole.{SetUpLeft, run_refused, run-passed, done-sound, run-left}
+use Rattle.std.proofs.Common.{rules}
+use Rattle.calls.proofs.whole.whole_run.Goals as goal
+use Rattle.calls.proofs.whole.whole_run.Goals.{After-number-number, Else-number-ne0}
+
+-- what is known once setup has answered its number
+module _ (c : After-number-number) where
+  abbrev sheet : List ℕ
+  sheet = c.args.sheet.now
+
+  abbrev table : List ℕ
+  table = c.args.table.now
+
+  abbrev marks : List ℕ
+  marks = c.args.marks.now
+
+  abbrev output : List ℕ
+  output = c.args.output.now
+
+  -- what setup answered and left
+  abbrev st : State
+  st = c.setup_for-answer.result.state
+
+  abbrev table-left : List ℕ
+  table-left = c.setup_for-answer.new.marks
+
+  abbrev marks-left : List ℕ
+  marks-left = c.setup_for-answer.new.1.1.0
+
+  set-up : SetUpLeft sheet table marks output c.setup_for-answer.result table-left marks-left c.number-number.result
+  set-up =
+      let e = c.setup_for-answer.ensures in
+      record { said = e.0; table_is = e.1.0; marks_is = e.1.1; number_is = c.number-number.ensures }
+
+  bytes : Bytes sheet
+  bytes i = omega (arith, c.shared-slice-known.given i)
+
+-- and that it is 0
+module _ (c : Else-number-ne0) where
+  passed : run_verdict (sheet c.before) (table c.before) (marks c.before) (output c.before) ≡ 0
+  passed = run-passed _ _ _ _ (set-up c.before) (search rules) c.if-number-ne0.false
+
+  sound : Sound (st c.before) (table-left c.before) (marks-left c.before)
+  sound = done-sound _ _ _ _ (set-up c.before) (bytes c.before) passed
+
+pub returns-then-number-ne0 : goal.returns-then-number-ne0
+returns-then-number-ne0 c = let e = to_z-of_z w32 c.number-number.result (search rules) in rw e (run_refused _ _ _ _ (set-up (goal.at.returns-then-number-ne0 c).After-number-number) c.if-number-ne0.true)
+
+pub list_all-requires : goal.list_all-requires
+list_all-requires c = sound (goal.at.list_all-requires c).Else-number-ne0
+
+pub overflow_cast-result : goal.overflow_cast-result
+overflow_cast-result c =
+    let few = count-few _ _ _ (sound (goal.at.overflow_cast-result c).Else-number-ne0) (output (goal.at.overflow_cast-result c).After-number-number) in
+    let e = ap (λ (t : Total). t.count) c.list_all.ensures in
+    record { sfits = omega (arith, few, e) }
+
+pub returns : goal.returns
+returns c =
+    let e = to_z-of_z w32 (pos c.list_all.result) (cast-result c) in
+    rw e (run-left _ _ _ _ (set-up (goal.at.returns c).After-number-number) (bytes (goal.at.returns c).After-number-number) (passed (goal.at.returns c).Else-number-ne0) c.list_all.ensures)
