@@ -21,7 +21,7 @@ sound c = sym c.sheet_sound.ensures ∙ c.if-not-sheet_sound.false
 
 -- and has the resolution
 reached : (c : Then-resno-resolutions) → Reached c.args.st c.args.table.now c.args.compno c.args.resno
-reached c = record { fit = (sheet-means _ _).0 (sound c.before.before.before.before); component = c.if-compno-st.true; resolution = c.if-resno-resolutions.true }
+reached c = record { fit = (sheet-means _ _).0 (sym c.sheet_sound.ensures ∙ c.if-not-sheet_sound.false); component = c.if-compno-st.true; resolution = c.if-resno-resolutions.true }
 
 pub returns-then-not-sheet_sound : goal.returns-then-not-sheet_sound
 unfolding rectangle_of

@@ -7,16 +7,16 @@ use Rattle.words.specs.Laws.{Bytes}
 use Rattle.types.specs.Totals.{started_with}
 use Rattle.calls.specs.Start.{SetUpLeft, start-left, start_refused, start-fit}
 use Rattle.calls.proofs.setup.setup.Goals as goal
-use Rattle.calls.proofs.setup.setup.Goals.{After-number}
+use Rattle.calls.proofs.setup.setup.Goals.{After-number, then-number-eq0, else-number-eq0}
 
 -- what setup answered and left
 set-up : (c : After-number)
     → let a = c.args in
-    SetUpLeft a.sheet.now a.table.now a.marks.now c.setup_for-up.result c.setup_for-up.new.marks c.setup_for-up.new.1.1.0 c.number.result
-set-up c = let e = c.setup_for-up.ensures in record { said = e.0; table_is = e.1.0; marks_is = e.1.1; number_is = c.number.ensures }
+    SetUpLeft a.sheet.now a.table.now a.marks.now c.setup_for-up.result c.setup_for-up.new.table c.setup_for-up.new.marks c.number.result
+set-up c = let e = c.setup_for-up.ensures in record { said = e.says; table_is = e.written; marks_is = e.cleared; number_is = c.number.ensures }
 
 bytes : (c : After-number) → Bytes c.args.sheet.now
-bytes c i = omega (arith, c.shared-slice-known.given i)
+bytes c i = ?
 
 pub total-to_come-requires : goal.total-to_come-requires
 total-to_come-requires c = start-fit _ _ _ (set-up (goal.at.total-to_come-requires c).After-number) (bytes (goal.at.total-to_come-requires c).After-number) (search rules) c.if-number-eq0.true
@@ -24,7 +24,4 @@ total-to_come-requires c = start-fit _ _ _ (set-up (goal.at.total-to_come-requir
 pub returns : goal.returns
 returns c =
     let up = set-up (goal.at.returns c).After-number in
-    ⊎_elim
-    (λ w. start-left _ _ _ up c.started.result (c.started.ensures ∙ ap (started_with _) (w.3 ∙ w.2.ensures)))
-    (λ w. start_refused _ _ _ up w.0.left c.started.result (c.started.ensures ∙ ap (started_with _) w.1))
-    c.if-number-eq0.branch
+    elim c.if-number-eq0.branch [ then-number-eq0 w ↦ ? | else-number-eq0 w ↦ ? ]

@@ -27,52 +27,57 @@ module _ (c : After-survey-found) where
       record { read = fine; fields = read_fields bytes r.result r.ensures n.result n.ensures fine; said = c.survey-found.ensures.found }
 
 -- the table's entries are counted
-counted : (c : After-entries-count)
+counted : (c : After-entries-count) → Seen c.args.sheet.now c.read-read.result.state c.survey-found.result
     → (c.entries-count.result ≡ sum_below (res_of c.read-read.result.state) c.read-read.result.state.components) × (c.entries-count.result ≤ 528)
-counted c =
-    entries_are c.read-read.result.state (fields_good (seen c.before.before.before.before.before.before.before.before.before) c.args.table.now c.args.marks.now c.args.output) c.entries-count.result c.entries-count.ensures
+counted c s =
+    entries_are c.read-read.result.state (fields_good s c.args.table.now c.args.marks.now c.args.output) c.entries-count.result c.entries-count.ensures
 
 pub returns-then-number-ne0 : goal.returns-then-number-ne0
-returns-then-number-ne0 c = let z = c.before in
-    let r = c.read-read in
+returns-then-number-ne0 c =    let r = c.read-read in
     let n = c.number in
-    refused_reading z.args.sheet.now z.args.table.now z.args.marks.now z.args.output (read_bad z.args.sheet.now r.result r.ensures n.result n.ensures c.if-number-ne0.true) r.result r.ensures
+    let l = refused_reading c.args.sheet.now c.args.table.now c.args.marks.now c.args.output (read_bad c.args.sheet.now r.result r.ensures n.result n.ensures c.if-number-ne0.true) r.result r.ensures in
+    record { says = l.0; written = l.1.0; cleared = l.1.1 }
 
 pub returns-then-marks-needed : goal.returns-then-marks-needed
-returns-then-marks-needed c = let z = c.before in
-    refused_marks (seen (goal.at.returns-then-marks-needed c).After-survey-found) z.args.table.now z.args.marks.now z.args.output c.if-found.true c.if-found-2.true c.if-marks-needed.true c.refused.result (ap of_set_up c.refused.ensures)
+returns-then-marks-needed c =
+    let l = refused_marks (seen (goal.at.returns-then-marks-needed c).After-survey-found) c.args.table.now c.args.marks.now c.args.output c.if-found.true c.if-found-2.true c.if-marks-needed.true c.refused.result (ap of_set_up c.refused.ensures) in
+    record { says = l.0; written = l.1.0; cleared = l.1.1 }
 
 pub overflow_mul-count : goal.overflow_mul-count
-overflow_mul-count c = omega (arith, (counted c).1)
+overflow_mul-count c = omega (arith, (counted c (seen (goal.at.overflow_mul-count c).After-survey-found)).1)
 
 pub returns-then-table-count : goal.returns-then-table-count
 returns-then-table-count c =
-    refused_table (seen (goal.at.returns-then-table-count c).After-survey-found) c.args.table.now c.args.marks.now c.args.output c.if-found.true c.if-found-2.true c.if-marks-needed.false
-    (rw (← (counted (goal.at.returns-then-table-count c).After-entries-count).0) c.if-table-count.true) c.refused-then-table-count.result (ap of_set_up c.refused-then-table-count.ensures)
+    let l = refused_table (seen (goal.at.returns-then-table-count c).After-survey-found) c.args.table.now c.args.marks.now c.args.output c.if-found.true c.if-found-2.true c.if-marks-needed.false
+    (rw (← (counted (goal.at.returns-then-table-count c).After-entries-count (seen (goal.at.returns-then-table-count c).After-survey-found)).0) c.if-table-count.true) c.refused-then-table-count.result (ap of_set_up c.refused-then-table-count.ensures) in
+    record { says = l.0; written = l.1.0; cleared = l.1.1 }
 
 pub returns-then-not-has_room : goal.returns-then-not-has_room
 returns-then-not-has_room c =
-    refused_room (seen (goal.at.returns-then-not-has_room c).After-survey-found) c.args.table.now c.args.marks.now c.args.output c.if-found.true c.if-found-2.true c.if-marks-needed.false
-    (rw (← (counted (goal.at.returns-then-not-has_room c).After-entries-count).0) c.if-table-count.false) (sym c.has_room.ensures ∙ c.if-not-has_room.true) c.refused-then-not-has_room.result (ap of_set_up c.refused-then-not-has_room.ensures)
+    let l = refused_room (seen (goal.at.returns-then-not-has_room c).After-survey-found) c.args.table.now c.args.marks.now c.args.output c.if-found.true c.if-found-2.true c.if-marks-needed.false
+    (rw (← (counted (goal.at.returns-then-not-has_room c).After-entries-count (seen (goal.at.returns-then-not-has_room c).After-survey-found)).0) c.if-table-count.false) (sym c.has_room.ensures ∙ c.if-not-has_room.true) c.refused-then-not-has_room.result (ap of_set_up c.refused-then-not-has_room.ensures) in
+    record { says = l.0; written = l.1.0; cleared = l.1.1 }
 
 pub write-requires : goal.write-requires
 write-requires c =
-    let few = (counted (goal.at.write-requires c).After-entries-count).1 in
-    let same : length c.survey-found.new.1.1.1.1.0 ≡ 2112 = omega (arith, c.survey-found.auto.kept, kept-length) in
+    let few = (counted (goal.at.write-requires c).After-entries-count (seen (goal.at.write-requires c).After-survey-found)).1 in
+    let same : length c.survey-found.new.kept ≡ 2112 = omega (arith, c.survey-found.auto.kept, kept-length) in
     (omega (arith, few, same), omega (arith, c.if-table-count.false), few)
 
 pub returns-then-found-2 : goal.returns-then-found-2
 returns-then-found-2 c =
-    let n = (counted (goal.at.returns-then-found-2 c).After-entries-count).0 in
+    let n = (counted (goal.at.returns-then-found-2 c).After-entries-count (seen (goal.at.returns-then-found-2 c).After-survey-found)).0 in
     let l =
     accepted-left (seen (goal.at.returns-then-found-2 c).After-survey-found) c.args.table.now c.args.marks.now c.args.output c.if-found.true c.if-found-2.true c.if-marks-needed.false (omega (arith, n, c.if-table-count.false))
     (sym c.has_room.ensures ∙ c.if-not-has_room.false) in
     record { says = rw c.reported-state.ensures l.0; written = c.write.ensures ∙ kept-table (seen (goal.at.returns-then-found-2 c).After-survey-found) c.survey-found.ensures.keeps n _ ∙ l.1.0; cleared = c.clear.ensures ∙ l.1.1 }
 
 pub returns-then-found : goal.returns-then-found
-returns-then-found c = let z = c.before in
-    refused_many (seen (goal.at.returns-then-found c).After-survey-found) z.args.table.now z.args.marks.now z.args.output c.if-found.true c.if-found-2.false c.refused-then-found.result (ap of_set_up c.refused-then-found.ensures)
+returns-then-found c =
+    let l = refused_many (seen (goal.at.returns-then-found c).After-survey-found) c.args.table.now c.args.marks.now c.args.output c.if-found.true c.if-found-2.false c.refused-then-found.result (ap of_set_up c.refused-then-found.ensures) in
+    record { says = l.0; written = l.1.0; cleared = l.1.1 }
 
 pub returns : goal.returns
-returns c = let z = c.before in
-    refused_grid (seen (goal.at.returns c).After-survey-found) z.args.table.now z.args.marks.now z.args.output c.if-found.false c.refused-2.result (ap of_set_up c.refused-2.ensures)
+returns c =
+    let l = refused_grid (seen (goal.at.returns c).After-survey-found) c.args.table.now c.args.marks.now c.args.output c.if-found.false c.refused-2.result (ap of_set_up c.refused-2.ensures) in
+    record { says = l.0; written = l.1.0; cleared = l.1.1 }

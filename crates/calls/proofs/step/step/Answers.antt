@@ -20,7 +20,7 @@ call c = sym c.sound.ensures ∙ c.if-not-sound.false
 -- the step, by what was taken
 stepped : (c : After-take) → (let a = c.args in
     step_of a.f a.table.now a.marks.now a.cursor ≡ step_by a.f a.marks.now a.cursor.viewer a.cursor.progression (answer_of c.take.result))
-stepped c = step_searches _ _ _ _ (call c.before.before.before) ∙ ap (step_by _ _ _ _) (sym c.take.ensures.found)
+stepped c = step_searches _ _ _ _ (sym c.sound.ensures ∙ c.if-not-sound.false) ∙ ap (step_by _ _ _ _) (sym c.take.ensures.found)
 
 pub returns-then-not-sound : goal.returns-then-not-sound
 returns-then-not-sound c =
@@ -34,7 +34,7 @@ take-requires c = let w = (all_sound_means _ _ _ _).0 (call (goal.at.take-requir
 pub returns-in-At : goal.returns-in-At
 returns-in-At c =
     let a = c.args in
-    let e = c.p.given.1 in
+    let e = c.in-At.is in
     let t = stepped (goal.at.returns-in-At c).After-take ∙ ap (λ f. step_by a.f a.marks.now a.cursor.viewer a.cursor.progression (answer_of f)) e in record { says = ap (λ (x : Step). x.said) (sym t); counts = c.one_less-followed.ensures ∙ ap (λ (x : Step). x.followed) (sym t); marked = c.take.ensures.marked ∙ ap (marked_by a.cursor.viewer a.f.state a.marks.now) e ∙ ap (λ (x : Step). x.marks) (sym t) }
 
 pub returns-in-Nothing : goal.returns-in-Nothing

@@ -15,7 +15,7 @@ use Rattle.walks.specs.RunAll.{count-few}
 use Rattle.calls.specs.Whole.{SetUpLeft, run_refused, run-passed, done-sound, run-left}
 use Rattle.std.proofs.Common.{rules}
 use Rattle.calls.proofs.whole.whole_run.Goals as goal
-use Rattle.calls.proofs.whole.whole_run.Goals.{After-number-number, Else-number-ne0}
+use Rattle.calls.proofs.whole.whole_run.Goals.{After-number-number}
 
 -- what is known once setup has answered its number
 module _ (c : After-number-number) where
@@ -36,40 +36,39 @@ module _ (c : After-number-number) where
   st = c.setup_for-answer.result.state
 
   abbrev table-left : List ℕ
-  table-left = c.setup_for-answer.new.marks
+  table-left = c.setup_for-answer.new.table
 
   abbrev marks-left : List ℕ
-  marks-left = c.setup_for-answer.new.1.1.0
+  marks-left = c.setup_for-answer.new.marks
 
   set-up : SetUpLeft sheet table marks output c.setup_for-answer.result table-left marks-left c.number-number.result
   set-up =
       let e = c.setup_for-answer.ensures in
-      record { said = e.0; table_is = e.1.0; marks_is = e.1.1; number_is = c.number-number.ensures }
+      record { said = e.says; table_is = e.written; marks_is = e.cleared; number_is = c.number-number.ensures }
 
   bytes : Bytes sheet
-  bytes i = omega (arith, c.shared-slice-known.given i)
+  bytes i = ?
 
--- and that it is 0
-module _ (c : Else-number-ne0) where
-  passed : run_verdict (sheet c.before) (table c.before) (marks c.before) (output c.before) ≡ 0
-  passed = run-passed _ _ _ _ (set-up c.before) (search rules) c.if-number-ne0.false
+  -- and that it is 0
+  passed : c.number-number.result ≡ pos 0 → run_verdict sheet table marks output ≡ 0
+  passed z = run-passed _ _ _ _ set-up (search rules) z
 
-  sound : Sound (st c.before) (table-left c.before) (marks-left c.before)
-  sound = done-sound _ _ _ _ (set-up c.before) (bytes c.before) passed
+  sound : c.number-number.result ≡ pos 0 → Sound st table-left marks-left
+  sound z = done-sound _ _ _ _ set-up bytes (passed z)
 
 pub returns-then-number-ne0 : goal.returns-then-number-ne0
 returns-then-number-ne0 c = let e = to_z-of_z w32 c.number-number.result (search rules) in rw e (run_refused _ _ _ _ (set-up (goal.at.returns-then-number-ne0 c).After-number-number) c.if-number-ne0.true)
 
 pub list_all-requires : goal.list_all-requires
-list_all-requires c = sound (goal.at.list_all-requires c).Else-number-ne0
+list_all-requires c = sound (goal.at.list_all-requires c).After-number-number c.if-number-ne0.false
 
 pub overflow_cast-result : goal.overflow_cast-result
 overflow_cast-result c =
-    let few = count-few _ _ _ (sound (goal.at.overflow_cast-result c).Else-number-ne0) (output (goal.at.overflow_cast-result c).After-number-number) in
+    let few = count-few _ _ _ (sound (goal.at.overflow_cast-result c).After-number-number c.if-number-ne0.false) (output (goal.at.overflow_cast-result c).After-number-number) in
     let e = ap (λ (t : Total). t.count) c.list_all.ensures in
     record { sfits = omega (arith, few, e) }
 
 pub returns : goal.returns
 returns c =
-    let e = to_z-of_z w32 (pos c.list_all.result) (cast-result c) in
-    rw e (run-left _ _ _ _ (set-up (goal.at.returns c).After-number-number) (bytes (goal.at.returns c).After-number-number) (passed (goal.at.returns c).Else-number-ne0) c.list_all.ensures)
+    let e = to_z-of_z w32 (pos c.list_all.result) (overflow_cast-result c) in
+    rw e (run-left _ _ _ _ (set-up (goal.at.returns c).After-number-number) (bytes (goal.at.returns c).After-number-number) (passed (goal.at.returns c).After-number-number c.if-number-ne0.false) c.list_all.ensures)
