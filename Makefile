@@ -4,19 +4,19 @@
 SHEET ?= sheets/a
 PREFIX ?= /usr/local
 C_FLAGS = -std=c11 -Wall -Wextra -Wpedantic -Werror -O2 -Iinclude
-CRATES := crates.txt $(shell find crates -type f ! -path '*/must-fail/*' ! -path '*/mutants/*')
-LISTING = target/bin/listing
-VECTORS = target/bin/vectors
-ARCHIVE = target/staticlib/libhost.a
-NATIVE = target/native/libhost.a target/native/libstepping.a
+CRATES := crates.txt $(shell find crates -type f ! -path '*/must-fail/*' ! -path '*/mutants/*' ! -path 'crates/*/out/*')
+LISTING = crates/listing/out/listing
+VECTORS = crates/vectors/out/vectors
+ARCHIVE = crates/host/out/libhost.a
+NATIVE = $(ARCHIVE) crates/stepping/out/libstepping.a
 
-# Every proof, must-fail edit and test, from nothing.
+# Every proof, must-fail edit and test; of the proofs, those that rt ci has not seen on this machine.
 test:
 	bash .ci/run
 
-# Every proof and program, rechecking only what changed.
+# Every proof, rechecking only what changed.
 check:
-	rt check
+	rt all check
 
 # A wider run of wrong programs that the check must refuse (long: a check of a crate for each).
 mutants:
@@ -52,10 +52,10 @@ vectors:
 list: $(LISTING)
 	@tools/list "$(SHEET)"
 
-# The archive for C, target/staticlib/libhost.a.
+# The archive for C, crates/host/out/libhost.a.
 archive: $(ARCHIVE)
 
-# The archives that the bench links, the host's and that of the run by single steps: on Arm they have code for Arm.
+# The archives that the bench links, the host's and that of the run by single steps.
 native: $(NATIVE)
 
 # The C host of examples/host, as target/c/host.
@@ -69,27 +69,24 @@ install: $(ARCHIVE)
 	sed 's|@PREFIX@|$(PREFIX)|' include/bonxigarth.pc.in >"$(DESTDIR)$(PREFIX)/lib/pkgconfig/bonxigarth.pc"
 
 # rt tells by contents what to prove again, and leaves alone what is as it was: hence the touch.
-target/bin/%: $(CRATES)
-	@tools/prove check $*
+$(LISTING) $(VECTORS): $(CRATES)
+	@tools/prove run $(@F)
 	@touch $@
 
-$(ARCHIVE): $(CRATES)
-	@tools/prove staticlib host
+$(NATIVE): $(CRATES)
+	@tools/prove lib $(patsubst lib%.a,%,$(@F))
 	@touch $@
-
-target/native/lib%.a: tools/native-archive tools/compile-again $(CRATES)
-	@tools/native-archive $*
 
 target/c/host: examples/host/host.c include/bonxigarth.h $(ARCHIVE)
 	@mkdir -p target/c
-	tools/x86-64 cc $(C_FLAGS) -o $@ examples/host/host.c $(ARCHIVE)
+	$(CC) $(C_FLAGS) -o $@ examples/host/host.c $(ARCHIVE)
 
 target/c/guards: tests/guards.c include/bonxigarth.h $(ARCHIVE)
 	@mkdir -p target/c
-	tools/x86-64 cc $(C_FLAGS) -o $@ tests/guards.c $(ARCHIVE)
+	$(CC) $(C_FLAGS) -o $@ tests/guards.c $(ARCHIVE)
 
 fmt:
-	rt fmt
+	for crate in crates/*; do (cd $$crate && rt fmt) || exit; done
 
 clean:
-	rm -rf target
+	rm -rf target crates/*/out

@@ -46,7 +46,7 @@ fn name_sources(repository: &Path) {
 fn link_archives(repository: &Path) {
     println!("cargo:rerun-if-env-changed=BONXIGARTH_LIB");
     println!("cargo:rerun-if-env-changed=BONXIGARTH_STEPPED_LIB");
-    let archive = from_environment("BONXIGARTH_LIB", &repository.join("target/native/libhost.a"));
+    let archive = from_environment("BONXIGARTH_LIB", &repository.join("crates/host/out/libhost.a"));
     let stepped = from_environment("BONXIGARTH_STEPPED_LIB", &archive);
     link(&archive);
     if stepped != archive {
