@@ -16,7 +16,7 @@ set-up : (c : After-number)
 set-up c = let e = c.setup_for-up.ensures in record { said = e.says; table_is = e.written; marks_is = e.cleared; number_is = c.number.ensures }
 
 bytes : (c : After-number) → Bytes c.args.sheet.now
-bytes c i = ?
+bytes c i = omega (arith, c.type_inv.sheet i)
 
 pub total-to_come-requires : goal.total-to_come-requires
 total-to_come-requires c = start-fit _ _ _ (set-up (goal.at.total-to_come-requires c).After-number) (bytes (goal.at.total-to_come-requires c).After-number) (search rules) c.if-number-eq0.true
@@ -24,4 +24,11 @@ total-to_come-requires c = start-fit _ _ _ (set-up (goal.at.total-to_come-requir
 pub returns : goal.returns
 returns c =
     let up = set-up (goal.at.returns c).After-number in
-    elim c.if-number-eq0.branch [ then-number-eq0 w ↦ ? | else-number-eq0 w ↦ ? ]
+    elim c.if-number-eq0.branch [
+      | then-number-eq0 w ↦
+          let l = start-left _ _ _ up c.started.result (c.started.ensures ∙ ap (started_with _) (w.to_come-is ∙ w.total-to_come.ensures)) in
+          record { says = l.0; counts = l.1.0; written = l.1.1.0; cleared = l.1.1.1 }
+      | else-number-eq0 w ↦
+          let l = start_refused _ _ _ up w.if-number-eq0.false c.started.result (c.started.ensures ∙ ap (started_with _) w.to_come-is) in
+          record { says = l.0; counts = l.1.0; written = l.1.1.0; cleared = l.1.1.1 }
+    ]

@@ -33,7 +33,7 @@ counted c s =
     entries_are c.read-read.result.state (fields_good s c.args.table.now c.args.marks.now c.args.output) c.entries-count.result c.entries-count.ensures
 
 pub returns-then-number-ne0 : goal.returns-then-number-ne0
-returns-then-number-ne0 c =    let r = c.read-read in
+returns-then-number-ne0 c = let r = c.read-read in
     let n = c.number in
     let l = refused_reading c.args.sheet.now c.args.table.now c.args.marks.now c.args.output (read_bad c.args.sheet.now r.result r.ensures n.result n.ensures c.if-number-ne0.true) r.result r.ensures in
     record { says = l.0; written = l.1.0; cleared = l.1.1 }

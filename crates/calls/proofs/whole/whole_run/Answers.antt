@@ -5,6 +5,7 @@ use native.Mathlib.Omega.{arith}
 use Prim.Native.Nat.{ℕ}
 use lib.IntN.{pos}
 use mir.Syntax.{w32}
+use mir.Val.{of_z}
 use mir.ValLaws.{to_z-of_z}
 use Rattle.words.specs.Laws.{Bytes}
 use Rattle.packets.specs.Calls.{run_verdict}
@@ -47,17 +48,19 @@ module _ (c : After-number-number) where
       record { said = e.says; table_is = e.written; marks_is = e.cleared; number_is = c.number-number.ensures }
 
   bytes : Bytes sheet
-  bytes i = ?
+  bytes i = omega (arith, c.type_inv.sheet i)
 
   -- and that it is 0
-  passed : c.number-number.result ≡ pos 0 → run_verdict sheet table marks output ≡ 0
+  passed : of_z w32 c.number-number.result ≡ 0 → run_verdict sheet table marks output ≡ 0
   passed z = run-passed _ _ _ _ set-up (search rules) z
 
-  sound : c.number-number.result ≡ pos 0 → Sound st table-left marks-left
+  sound : of_z w32 c.number-number.result ≡ 0 → Sound st table-left marks-left
   sound z = done-sound _ _ _ _ set-up bytes (passed z)
 
 pub returns-then-number-ne0 : goal.returns-then-number-ne0
-returns-then-number-ne0 c = let e = to_z-of_z w32 c.number-number.result (search rules) in rw e (run_refused _ _ _ _ (set-up (goal.at.returns-then-number-ne0 c).After-number-number) c.if-number-ne0.true)
+returns-then-number-ne0 c =
+    let l = run_refused _ _ _ _ (set-up (goal.at.returns-then-number-ne0 c).After-number-number) c.if-number-ne0.true in
+    rw (to_z-of_z w32 c.number-number.result (search rules)) record { says = l.0; written = l.1.0; marked = l.1.1.0; listed = l.1.1.1 }
 
 pub list_all-requires : goal.list_all-requires
 list_all-requires c = sound (goal.at.list_all-requires c).After-number-number c.if-number-ne0.false
@@ -70,5 +73,8 @@ overflow_cast-result c =
 
 pub returns : goal.returns
 returns c =
+    let n = (goal.at.returns c).After-number-number in
+    let z = c.if-number-ne0.false in
     let e = to_z-of_z w32 (pos c.list_all.result) (overflow_cast-result c) in
-    rw e (run-left _ _ _ _ (set-up (goal.at.returns c).After-number-number) (bytes (goal.at.returns c).After-number-number) (passed (goal.at.returns c).After-number-number c.if-number-ne0.false) c.list_all.ensures)
+    let l = run-left _ _ _ _ (set-up n) (bytes n) (passed n z) c.list_all.ensures in
+    rw e record { says = l.0; written = l.1.0; marked = l.1.1.0; listed = l.1.1.1 }
