@@ -10,8 +10,8 @@ returns-then-number-eq0 c =
     let a = c.args in
     let up = c.setup_for-up in
     let n = c.number-number in
-    let l = told a.sheet.now a.table.now a.marks.now a.reports.now up.result up.ensures.0 up.ensures.1.0 up.ensures.1.1 n.result n.ensures (search rules) c.if-number-eq0.true in
-    let room = told_room a.sheet.now a.table.now a.marks.now a.reports.now up.result up.ensures.0 up.ensures.1.0 up.ensures.1.1 n.result n.ensures (search rules) c.if-number-eq0.true in
+    let l = told a.sheet.now a.table.now a.marks.now a.reports.now up.result up.ensures.says up.ensures.written up.ensures.cleared n.result n.ensures (search rules) c.if-number-eq0.true in
+    let room = told_room a.sheet.now a.table.now a.marks.now a.reports.now up.result up.ensures.says up.ensures.written up.ensures.cleared n.result n.ensures (search rules) c.if-number-eq0.true in
     record { says = l.0; written = l.1.0; cleared = l.1.1.0; told = c.put_four.ensures ∙ four_over a.reports.now _ _ _ _ room ∙ l.1.1.1 }
 
 pub returns-else-number-eq0 : goal.returns-else-number-eq0
@@ -19,4 +19,5 @@ returns-else-number-eq0 c =
     let a = c.args in
     let up = c.setup_for-up in
     let n = c.number-number in
-    refused a.sheet.now a.table.now a.marks.now a.reports.now up.result up.ensures.0 up.ensures.1.0 up.ensures.1.1 n.result n.ensures (search rules) c.if-number-eq0.false
+    let l = refused a.sheet.now a.table.now a.marks.now a.reports.now up.result up.ensures.says up.ensures.written up.ensures.cleared n.result n.ensures (search rules) c.if-number-eq0.false in
+    record { says = l.0; written = l.1.0; cleared = l.1.1.0; told = l.1.1.1 }

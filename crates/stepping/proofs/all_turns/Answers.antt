@@ -10,7 +10,7 @@ pub turn-count-requires : goal.turn-count-requires
 turn-count-requires c = turns-few c.turns.invariant c.turns-test.true c.requires
 
 pub turns-preserved : goal.turns-preserved
-turns-preserved c = turns-next c.turns.invariant c.turns-test.true c.marks.given c.output.given c.turn-count.ensures
+turns-preserved c = turns-next c.turns.invariant c.turns-test.true c.turn-count.auto.marks c.turn-count.auto.output c.turn-count.ensures
 
 pub shape_of-marks : goal.shape_of-marks
 shape_of-marks c = c.turns.invariant.long

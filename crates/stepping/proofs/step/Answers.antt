@@ -2,4 +2,4 @@
 use Rattle.stepping.proofs.step.Goals as goal
 
 pub returns : goal.returns
-returns c = let e = c.step-answer.ensures in rw (← c.started-f.ensures) record { says = e.0; marked = e.1.1 }
+returns c = let e = c.step-answer.ensures in rw (← c.started-f.ensures) record { says = e.says; marked = e.marked }
