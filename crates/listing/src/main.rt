@@ -8,6 +8,8 @@ mod text;
 
 ghost use Rattle.std.specs.Prelude.{◌≤◌, length};
 
+use arrayvec::ArrayString;
+use std::fmt::Write;
 use std::io;
 use std::process::ExitCode;
 
@@ -20,15 +22,16 @@ fn print(rt: &impl Print, sheet: &[u8], text: &mut [u8]) -> io::Result<()>
 }
 
 // Tells on standard error where reading or writing failed, and why: the system's words, without its number for them.
-fn tell(rt: &(impl Eprint + AllocGlobal), place: &str, error: io::Error) -> io::Result<()> {
-    let said = format!(in rt.alloc(); "{error}")?;
+fn tell(rt: &impl Eprint, place: &str, error: io::Error) -> io::Result<()> {
+    let mut said = ArrayString::<256>::new();
+    write!(said, "{error}")?;
     match said.as_str().split_once(" (os error ") {
         Some((words, _)) => eprintln!(rt; "listing: {place}: {words}"),
         None => eprintln!(rt; "listing: {place}: {said}"),
     }
 }
 
-fn fail(rt: &(impl Eprint + AllocGlobal), place: &str, error: io::Error) -> ExitCode {
+fn fail(rt: &impl Eprint, place: &str, error: io::Error) -> ExitCode {
     let _ = tell(rt, place, error);
     ExitCode::FAILURE
 }
