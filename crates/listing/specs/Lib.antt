@@ -1,5 +1,4 @@
 -- What the listing program's contracts and proofs cite.
-pub mod Within
 pub mod Digits
 pub mod Signs
 pub mod Put

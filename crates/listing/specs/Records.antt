@@ -53,7 +53,7 @@ record_lines (p ∷ ps) rest b =
     let left : Bytes (records_of ps ++ rest) = λ i. rw (get_or-append-add (record_of p) (records_of ps ++ rest) i 0) at (whole (length (record_of p) + i)) in
     let behind : lines_at (record_of p ++ (records_of ps ++ rest)) 16 (length ps) ≡ lines_at (records_of ps ++ rest) 0 (length ps)
     = ap (λ (n : ℕ). lines_at (record_of p ++ (records_of ps ++ rest)) n (length ps)) (record_long p) ∙ lines-behind (record_of p) (records_of ps ++ rest) 0 (length ps) in
-    rw (e, record_line p (records_of ps ++ rest) whole, behind, record_lines ps rest left)
+    ap (λ (l : List ℕ). lines_at l 0 (suc (length ps))) e ∙ rw (record_line p (records_of ps ++ rest) whole, behind, record_lines ps rest left)
 
 -- so the lines of what the whole run has written, and the count, are 01's
 pub output-lines : (ps : List Position) (old : List ℕ) → Bytes (over (records_of ps) old)

@@ -1,6 +1,6 @@
 // The listing program (01, 'Listing program and its sheets'): reads a sheet from standard input and prints a line for each packet, then the count;
-// or a line such as `refused -1`. A refused sheet is an answer like any other. An input that cannot be read or a listing that cannot be written is told
-// on standard error; a Rattle program always ends with status 0, so tools/list, which runs this one, answers 1 then.
+// or a line such as `refused -1`. A refused sheet is an answer like any other, with status 0. An input that cannot be read or a listing that cannot be
+// written is told on standard error, with status 1.
 #![tactic(auto)]
 
 mod read;
@@ -8,30 +8,44 @@ mod text;
 
 ghost use Rattle.std.specs.Prelude.{◌≤◌, length};
 
-use libc::STDOUT_FILENO;
-use read::Input;
+use arrayvec::ArrayString;
+use std::fmt::Write;
+use std::io;
+use std::process::ExitCode;
 
 // Prints the listing of a sheet.
-fn print(sheet: &[u8], text: &mut [u8])
+fn print(rt: &impl Print, sheet: &[u8], text: &mut [u8]) -> io::Result<()>
     requires { 90123 ≤ length text.old }
 {
     let n = text::listing(sheet, text);
-    if !io::write_all(STDOUT_FILENO, &text[..n]) {
-        os::fail(b"listing: standard output");
+    rt.write_all(&text[..n])
+}
+
+// Tells on standard error where reading or writing failed, and why: the system's words, without its number for them.
+fn tell(rt: &impl Eprint, place: &str, error: io::Error) -> io::Result<()> {
+    let mut said = ArrayString::<256>::new();
+    write!(said, "{error}")?;
+    match said.as_str().split_once(" (os error ") {
+        Some((words, _)) => eprintln!(rt; "listing: {place}: {words}"),
+        None => eprintln!(rt; "listing: {place}: {said}"),
     }
 }
 
-fn main() {
+fn fail(rt: &impl Eprint, place: &str, error: io::Error) -> ExitCode {
+    let _ = tell(rt, place, error);
+    ExitCode::FAILURE
+}
+
+fn main(rt: HostRuntime) -> ExitCode {
     // one byte more than 577 records, so that a longer input is refused and not cut
     let mut sheet = [0u8; 18465];
     // a line of at most 44 bytes for each of 2,048 marks, and 11 for the count
     let mut text = [0u8; 90123];
-    match read::fill(&mut sheet) {
-        Input::Bytes(n) => {
-            print(&sheet[..n], &mut text);
-        }
-        Input::Failed => {
-            os::fail(b"listing: standard input");
-        }
+    match read::fill(&mut rt.stdin(), &mut sheet) {
+        Ok(n) => match print(&rt, &sheet[..n], &mut text) {
+            Ok(()) => ExitCode::SUCCESS,
+            Err(e) => fail(&rt, "standard output", e),
+        },
+        Err(e) => fail(&rt, "standard input", e),
     }
 }

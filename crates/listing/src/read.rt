@@ -1,30 +1,20 @@
 // Reading standard input, with an input that ends told apart from one that cannot be read.
-ghost use Rattle.listing.specs.Within.{Within};
+ghost use Rattle.std.specs.Io.{ReadsAtMost};
 
-use libc::STDIN_FILENO;
+use std::io;
+use std::io::Read;
 
-#[derive(Clone, Copy)]
-pub(crate) enum Input {
-    // how many bytes came
-    Bytes(usize),
-    Failed,
-}
-
-// Fills buf, as far as the input goes.
-pub(crate) fn fill(buf: &mut [u8]) -> Input
-    ensures { Within result buf.new }
+// Fills buf, as far as the input goes, and answers how many bytes have come.
+pub(crate) fn fill(input: &mut impl Read, buf: &mut [u8]) -> io::Result<usize>
+    ensures { ReadsAtMost result buf.new }
 {
     let mut done = 0;
     while done < buf.len() {
-        let got = libc::read(STDIN_FILENO, &mut buf[done..]);
-        if got < 0 {
-            return Input::Failed;
-        }
-        let more = io::count(got, &buf[done..]);
+        let more = input.read(&mut buf[done..])?;
         if more == 0 {
-            return Input::Bytes(done);
+            return Ok(done);
         }
         done += more;
     }
-    Input::Bytes(done)
+    Ok(done)
 }

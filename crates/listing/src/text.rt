@@ -5,6 +5,7 @@ ghost use Rattle.packets.specs.Text.{decimal, refused_line, text_of};
 ghost use Rattle.listing.specs.Put.{Put};
 ghost use Rattle.listing.specs.Lines.{line_at, lines_at};
 
+use itoa::Buffer;
 use words::word_at;
 
 // Some bytes.
@@ -12,12 +13,10 @@ fn put(text: &mut [u8], at: usize, part: &[u8]) -> usize
     requires { at + length part.now ≤ length text.old }
     ensures { Put text.old at text.new result part.now }
 {
-    let mut i = 0;
-    while i < part.len() {
+    for i in 0..part.len() {
         text[at + i] = part[i];
-        i += 1;
     }
-    at + i
+    at + part.len()
 }
 
 // A number in decimal, which has at most ten digits, and a byte after it.
@@ -26,9 +25,8 @@ fn put_number(text: &mut [u8], at: usize, n: u32, last: u8) -> usize
     ensures puts { Put text.old at text.new result (decimal n ++ last ∷ []) }
     ensures near { result ≤ at + 11 }
 {
-    let mut digits = [0u8; 20];
-    let k = io::decimal(n as u64, &mut digits);
-    let next = put(text, at, &digits[..k]);
+    let mut digits = Buffer::new();
+    let next = put(text, at, digits.format(n).as_bytes());
     put(text, next, &[last])
 }
 
@@ -54,10 +52,8 @@ fn put_packets(text: &mut [u8], output: &[u8], count: u32) -> usize
     ensures bytes { Bytes output.now }
 {
     let mut at = 0;
-    let mut i = 0;
-    while i < count {
+    for i in 0..count {
         at = put_packet(text, at, output, 16 * i as usize);
-        i += 1;
     }
     put_number(text, at, count, b'\n')
 }

@@ -43,12 +43,10 @@ pub(crate) fn signed(s: &[u8], i: u32) -> i32 {
 
 // Whether every byte is v.
 pub(crate) fn all_are(s: &[u8], v: u8) -> bool {
-    let mut i = 0;
-    while i < s.len() {
-        if s[i] != v {
+    for b in s {
+        if *b != v {
             return false;
         }
-        i += 1;
     }
     true
 }
@@ -57,12 +55,10 @@ pub(crate) fn same(a: &[u8], b: &[u8]) -> bool {
     if a.len() != b.len() {
         return false;
     }
-    let mut i = 0;
-    while i < a.len() {
+    for i in 0..a.len() {
         if a[i] != b[i] {
             return false;
         }
-        i += 1;
     }
     true
 }
@@ -89,9 +85,7 @@ pub(crate) fn flip(s: &mut [u8], at: usize, bits: u8) {
 
 // Copies to the start of another slice.
 pub(crate) fn copy(from: &[u8], to: &mut [u8]) {
-    let mut i = 0;
-    while i < from.len() {
+    for i in 0..from.len() {
         put(to, i, from[i]);
-        i += 1;
     }
 }

@@ -2,6 +2,7 @@
 // marks a precinct there, so that a region with no packets looks alive; here the answer is 0 for good, and no mark is set.
 use crate::lent::{FILL, MARKS, TABLE};
 use crate::{bytes, lent, same, setups};
+use std::io;
 use types::answer::Stepped;
 use types::cursor::Cursor;
 use types::followed::Followed;
@@ -58,10 +59,10 @@ fn stays_dead() -> bool {
         & lent::only_inside(&marks, 8)
 }
 
-pub(crate) fn dead_feed() {
+pub(crate) fn dead_feed(rt: &impl Print) -> io::Result<()> {
     if stays_dead() {
-        io::write_all(1, b"dead feed: 0, 0 again, no mark set\n");
+        println!(rt; "dead feed: 0, 0 again, no mark set")
     } else {
-        io::write_all(1, b"dead feed: WRONG\n");
+        println!(rt; "dead feed: WRONG")
     }
 }

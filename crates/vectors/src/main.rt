@@ -21,6 +21,11 @@ mod whole;
 
 use crate::file::Head;
 use crate::tally::Tally;
+use anyhow::{Context, Result};
+use std::fs::File;
+use std::io;
+use std::io::Read;
+use std::rt::Files;
 
 // No case is longer.
 const LONGEST: usize = 65_536;
@@ -41,62 +46,57 @@ fn right(kind: u32, rest: &[u8]) -> bool {
 }
 
 // The cases of a record: many of kinds 5 and 6, else one.
-fn replayed(kind: u32, rest: &[u8], so_far: Tally) -> Tally {
+fn replayed(rt: &impl Print, kind: u32, rest: &[u8], so_far: Tally) -> io::Result<Tally> {
     match kind {
-        5 => steps::all(rest, so_far),
-        6 => rectangles::all(rest, so_far),
-        _ => so_far.with(right(kind, rest)),
+        5 => steps::all(rt, rest, so_far),
+        6 => rectangles::all(rt, rest, so_far),
+        _ => so_far.with(rt, right(kind, rest)),
     }
 }
 
 // The next case of the file; one of another kind is passed over.
-fn turn(fd: i32, kind: u32, so_far: Tally) -> Tally {
+fn turn(rt: &impl Print, file: &mut impl Read, kind: u32, so_far: Tally) -> io::Result<Tally> {
     let mut rest = [0u8; LONGEST];
-    match file::next(fd, &mut rest) {
+    match file::next(file, &mut rest)? {
         Head::Case(found, length) => {
             if found == kind {
-                replayed(kind, bytes::part(&rest, 0, length), so_far)
+                replayed(rt, kind, bytes::part(&rest, 0, length), so_far)
             } else {
-                so_far
+                Ok(so_far)
             }
         }
-        Head::End => so_far.ended(),
-        Head::Broken => so_far.with(false).ended(),
+        Head::End => Ok(so_far.ended()),
+        Head::Broken => Ok(so_far.with(rt, false)?.ended()),
     }
 }
 
 // Every case of a kind up to the file's end.
-fn all(fd: i32, kind: u32) -> Tally {
+fn all(rt: &impl Print, file: &mut impl Read, kind: u32) -> io::Result<Tally> {
     let mut tally = Tally::new(kind);
-    let mut turns: u32 = 0;
-    while turns < MOST {
+    for _ in 0..MOST {
         if !tally.going {
-            return tally;
+            return Ok(tally);
         }
-        tally = turn(fd, kind, tally);
-        turns += 1;
+        tally = turn(rt, file, kind, tally)?;
     }
-    tally.with(false)
+    tally.with(rt, false)
 }
 
-fn replay(path: &[u8], kind: u32, name: &[u8]) {
-    let fd = os::open_read(path);
-    if fd < 0 {
-        os::fail(path);
-        return;
-    }
-    let tally = all(fd, kind);
-    libc::close(fd);
-    tally::line(name, tally);
+fn replay(rt: &(impl Files + Print), path: &str, kind: u32, name: &str) -> Result<()> {
+    let mut file = File::open(rt, path).context(path)?;
+    let tally = all(rt, &mut file, kind).context(path)?;
+    tally::line(rt, name, tally)?;
+    Ok(())
 }
 
-fn main() {
-    replay(b"rust", 1, b"accepted sheets");
-    replay(b"rust", 2, b"tile bounds");
-    replay(b"rust", 3, b"arithmetic");
-    replay(b"model", 4, b"limits");
-    replay(b"model", 5, b"steps");
-    replay(b"model", 6, b"rectangles");
-    replay(b"model", 7, b"traces of eight viewers");
-    dead_feed::dead_feed();
+fn main(rt: HostRuntime) -> Result<()> {
+    replay(&rt, "rust", 1, "accepted sheets")?;
+    replay(&rt, "rust", 2, "tile bounds")?;
+    replay(&rt, "rust", 3, "arithmetic")?;
+    replay(&rt, "model", 4, "limits")?;
+    replay(&rt, "model", 5, "steps")?;
+    replay(&rt, "model", 6, "rectangles")?;
+    replay(&rt, "model", 7, "traces of eight viewers")?;
+    dead_feed::dead_feed(&rt)?;
+    Ok(())
 }

@@ -4,6 +4,7 @@ use crate::bytes::{length, signed, word};
 use crate::lent::{FILL, MOST_MARKS, TABLE};
 use crate::tally::Tally;
 use crate::{bytes, lent, setups};
+use std::io;
 use types::answer::Located;
 
 fn sheet_of(rest: &[u8]) -> &[u8] {
@@ -54,14 +55,12 @@ fn right(rest: &[u8], question: &[u8]) -> bool {
     setups::says(up, 0) & answers(said, question)
 }
 
-pub(crate) fn all(rest: &[u8], so_far: Tally) -> Tally {
+pub(crate) fn all(rt: &impl Print, rest: &[u8], so_far: Tally) -> io::Result<Tally> {
     let list = questions_of(rest);
     let count = list.len() / 44;
     let mut tally = so_far;
-    let mut i = 0;
-    while i < count {
-        tally = tally.with(right(rest, bytes::part(list, 44 * i, 44)));
-        i += 1;
+    for i in 0..count {
+        tally = tally.with(rt, right(rest, bytes::part(list, 44 * i, 44)))?;
     }
-    tally
+    Ok(tally)
 }

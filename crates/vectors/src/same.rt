@@ -49,24 +49,19 @@ fn no_progression(p: Progression) -> bool {
 }
 
 fn no_numbers(numbers: &[u32; 16]) -> bool {
-    let mut i = 0;
-    while i < 16 {
-        if numbers[i] != 0 {
+    for n in numbers {
+        if *n != 0 {
             return false;
         }
-        i += 1;
     }
     true
 }
 
 fn no_changes(changes: [Progression; 32]) -> bool {
-    let mut i = 0;
-    while i < 32 {
-        let p = changes[i];
+    for p in changes {
         if !no_progression(p) {
             return false;
         }
-        i += 1;
     }
     true
 }
@@ -95,12 +90,10 @@ fn is_empty(st: State) -> bool {
 }
 
 fn no_totals(totals: &[u32; 8]) -> bool {
-    let mut i = 0;
-    while i < 8 {
-        if totals[i] != 0 {
+    for n in totals {
+        if *n != 0 {
             return false;
         }
-        i += 1;
     }
     true
 }

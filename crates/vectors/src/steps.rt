@@ -8,6 +8,7 @@ use crate::lent::{FILL, SMALL};
 use crate::tally::Tally;
 use crate::walked::{bit_of, mark_of};
 use crate::{bytes, cursors, lent, same, setups};
+use std::io;
 use types::answer::Stepped;
 use types::cursor::{Cursor, Place};
 use types::state::State;
@@ -143,30 +144,26 @@ fn altered(rest: &[u8], entry: &[u8]) -> bool {
     right(rest, trial, Cursor::fresh(0, 0), word(entry, 4))
 }
 
-fn cursors(rest: &[u8], so_far: Tally) -> Tally {
+fn cursors(rt: &impl Print, rest: &[u8], so_far: Tally) -> io::Result<Tally> {
     let list = cursors_of(rest);
     let count = list.len() / 16;
     let mut tally = so_far;
-    let mut i = 0;
-    while i < count {
-        tally = tally.with(from_cursor(rest, bytes::part(list, 16 * i, 16)));
-        i += 1;
+    for i in 0..count {
+        tally = tally.with(rt, from_cursor(rest, bytes::part(list, 16 * i, 16)))?;
     }
-    tally
+    Ok(tally)
 }
 
-fn alterations(rest: &[u8], so_far: Tally) -> Tally {
+fn alterations(rt: &impl Print, rest: &[u8], so_far: Tally) -> io::Result<Tally> {
     let list = alterations_of(rest);
     let count = list.len() / 20;
     let mut tally = so_far;
-    let mut i = 0;
-    while i < count {
-        tally = tally.with(altered(rest, bytes::part(list, 20 * i, 20)));
-        i += 1;
+    for i in 0..count {
+        tally = tally.with(rt, altered(rest, bytes::part(list, 20 * i, 20)))?;
     }
-    tally
+    Ok(tally)
 }
 
-pub(crate) fn all(rest: &[u8], so_far: Tally) -> Tally {
-    alterations(rest, cursors(rest, so_far))
+pub(crate) fn all(rt: &impl Print, rest: &[u8], so_far: Tally) -> io::Result<Tally> {
+    alterations(rt, rest, cursors(rt, rest, so_far)?)
 }

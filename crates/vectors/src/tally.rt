@@ -1,4 +1,5 @@
 // How many cases of a kind were replayed, and how many of them were wrong.
+use std::io;
 
 #[derive(Clone, Copy)]
 pub(crate) struct Tally {
@@ -17,12 +18,8 @@ fn more(n: u32) -> u32 {
 }
 
 // A wrong case by its kind and its number among them, from 0.
-fn report(kind: u32, number: u32) {
-    io::write_all(1, b"wrong: kind ");
-    io::print_decimal(1, kind as u64);
-    io::write_all(1, b" number ");
-    io::print_decimal(1, number as u64);
-    io::write_all(1, b"\n");
+fn report(rt: &impl Print, kind: u32, number: u32) -> io::Result<()> {
+    println!(rt; "wrong: kind {kind} number {number}")
 }
 
 impl Tally {
@@ -36,13 +33,13 @@ impl Tally {
     }
 
     // One case more.
-    pub(crate) fn with(mut self, right: bool) -> Self {
+    pub(crate) fn with(mut self, rt: &impl Print, right: bool) -> io::Result<Self> {
         if !right {
-            report(self.kind, self.cases);
+            report(rt, self.kind, self.cases)?;
             self.wrong = more(self.wrong);
         }
         self.cases = more(self.cases);
-        self
+        Ok(self)
     }
 
     pub(crate) fn ended(mut self) -> Self {
@@ -51,11 +48,6 @@ impl Tally {
     }
 }
 
-pub(crate) fn line(name: &[u8], t: Tally) {
-    io::write_all(1, name);
-    io::write_all(1, b": ");
-    io::print_decimal(1, t.cases as u64);
-    io::write_all(1, b" cases, ");
-    io::print_decimal(1, t.wrong as u64);
-    io::write_all(1, b" wrong\n");
+pub(crate) fn line(rt: &impl Print, name: &str, t: Tally) -> io::Result<()> {
+    println!(rt; "{name}: {} cases, {} wrong", t.cases, t.wrong)
 }

@@ -120,8 +120,7 @@ fn all_calls(
     let count = calls.len() / 24;
     let mut right = true;
     let mut last = f;
-    let mut i = 0;
-    while i < count {
+    for i in 0..count {
         let answered = call(
             last,
             table,
@@ -131,7 +130,6 @@ fn all_calls(
         );
         right = right & answered.right;
         last = answered.followed;
-        i += 1;
     }
     Answered {
         right,
@@ -142,10 +140,8 @@ fn all_calls(
 // Whether the totals are the stored ones.
 fn totals_right(f: Followed, rest: &[u8]) -> bool {
     let mut right = true;
-    let mut v: u32 = 0;
-    while v < 8 {
+    for v in 0..8 {
         right = right & (f.total(v) == word(rest, 5 + v));
-        v += 1;
     }
     right
 }

@@ -101,13 +101,11 @@ fn to_end(
     so_far: Listing,
 ) -> Listing {
     let mut listing = so_far;
-    let mut turns: u32 = 0;
-    while turns < MOST {
+    for _ in 0..MOST {
         if !listing.going {
             return listing;
         }
         listing = turn(table, marks, needed, packets, listing);
-        turns += 1;
     }
     listing
 }
@@ -153,10 +151,8 @@ fn all(f: Followed, table: &[u8], marks: &mut [u8], needed: usize, packets: &[u8
         cursor: Cursor::fresh(0, 0),
         followed: f,
     };
-    let mut k: u32 = 0;
-    while k < progressions {
+    for k in 0..progressions {
         listing = progression(table, marks, needed, packets, k, listing);
-        k += 1;
     }
     listing
 }
@@ -175,12 +171,10 @@ fn no_such(f: Followed, table: &[u8], marks: &[u8], needed: usize) -> bool {
 // Sets the marks of the stored packets.
 fn mark_listed(st: State, packets: &[u8], marks: &mut [u8]) {
     let count = packets.len() / 16;
-    let mut n = 0;
-    while n < count {
+    for n in 0..count {
         let one = bytes::part(packets, 16 * n, 16);
         let index = mark_of(st, word(one, 0), word(one, 1), word(one, 2), word(one, 3));
         bytes::put(marks, index, 1);
-        n += 1;
     }
 }
 

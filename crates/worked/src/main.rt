@@ -9,10 +9,12 @@ mod show;
 mod tiles;
 mod wide;
 
-fn main() {
-    pairs::all();
-    wide::all();
-    powers::all();
-    precincts::all();
-    tiles::all();
+use std::io;
+
+fn main(rt: HostRuntime) -> io::Result<()> {
+    pairs::all(&rt)?;
+    wide::all(&rt)?;
+    powers::all(&rt)?;
+    precincts::all(&rt)?;
+    tiles::all(&rt)
 }

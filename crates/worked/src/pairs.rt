@@ -1,6 +1,7 @@
 // The functions of two 32-bit operands: minimum, maximum, sum, product, and the division rounded up.
 use crate::show;
 use geometry::{math, precinct};
+use std::io;
 
 #[derive(Clone, Copy)]
 struct Pair(u32, u32);
@@ -41,48 +42,48 @@ const PAIRS: [Pair; 32] = [
     Pair(1, 0xffff_ffff),
 ];
 
-fn uint_min(a: u32, b: u32) {
-    show::call(b"uint_min", a as u64, b as u64);
-    show::equals(math::uint_min(a, b));
+fn uint_min(rt: &impl Print, a: u32, b: u32) -> io::Result<()> {
+    show::call(rt, "uint_min", a as u64, b as u64)?;
+    show::equals(rt, math::uint_min(a, b))
 }
 
-fn uint_max(a: u32, b: u32) {
-    show::call(b"uint_max", a as u64, b as u64);
-    show::equals(math::uint_max(a, b));
+fn uint_max(rt: &impl Print, a: u32, b: u32) -> io::Result<()> {
+    show::call(rt, "uint_max", a as u64, b as u64)?;
+    show::equals(rt, math::uint_max(a, b))
 }
 
-fn uint_adds(a: u32, b: u32) {
-    show::call(b"uint_adds", a as u64, b as u64);
-    show::equals(math::uint_adds(a, b));
+fn uint_adds(rt: &impl Print, a: u32, b: u32) -> io::Result<()> {
+    show::call(rt, "uint_adds", a as u64, b as u64)?;
+    show::equals(rt, math::uint_adds(a, b))
 }
 
-fn wrapping_mul(a: u32, b: u32) {
-    show::call(b"wrapping_mul", a as u64, b as u64);
-    show::equals(math::wrapping_mul(a, b));
+fn wrapping_mul(rt: &impl Print, a: u32, b: u32) -> io::Result<()> {
+    show::call(rt, "wrapping_mul", a as u64, b as u64)?;
+    show::equals(rt, math::wrapping_mul(a, b))
 }
 
-fn uint_ceildiv(a: u32, b: u32) {
-    show::call(b"uint_ceildiv", a as u64, b as u64);
-    show::answer(math::uint_ceildiv(a, b));
+fn uint_ceildiv(rt: &impl Print, a: u32, b: u32) -> io::Result<()> {
+    show::call(rt, "uint_ceildiv", a as u64, b as u64)?;
+    show::answer(rt, math::uint_ceildiv(a, b))
 }
 
-fn component_bound(t: u32, d: u32) {
-    show::call(b"component_bound", t as u64, d as u64);
-    show::answer(precinct::component_bound(t, d));
+fn component_bound(rt: &impl Print, t: u32, d: u32) -> io::Result<()> {
+    show::call(rt, "component_bound", t as u64, d as u64)?;
+    show::answer(rt, precinct::component_bound(t, d))
 }
 
-fn each(a: u32, b: u32) {
-    uint_min(a, b);
-    uint_max(a, b);
-    uint_adds(a, b);
-    wrapping_mul(a, b);
-    uint_ceildiv(a, b);
-    component_bound(a, b);
+fn each(rt: &impl Print, a: u32, b: u32) -> io::Result<()> {
+    uint_min(rt, a, b)?;
+    uint_max(rt, a, b)?;
+    uint_adds(rt, a, b)?;
+    wrapping_mul(rt, a, b)?;
+    uint_ceildiv(rt, a, b)?;
+    component_bound(rt, a, b)
 }
 
-pub(crate) fn all() {
-    for i in 0..32 {
-        let p = PAIRS[i];
-        each(p.0, p.1);
+pub(crate) fn all(rt: &impl Print) -> io::Result<()> {
+    for p in &PAIRS {
+        each(rt, p.0, p.1)?;
     }
+    Ok(())
 }

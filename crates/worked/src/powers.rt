@@ -1,6 +1,7 @@
 // The divisions by a power of two: rounded down, which shifts in 32 bits, and rounded up, which shifts in 64.
 use crate::show;
 use geometry::{math, precinct};
+use std::io;
 
 // A number and an exponent.
 #[derive(Clone, Copy)]
@@ -42,30 +43,30 @@ const SHIFTS: [Shift; 32] = [
     Shift(7, 0xffff_ffff),
 ];
 
-fn uint_floordivpow2(a: u32, b: u32) {
-    show::call(b"uint_floordivpow2", a as u64, b as u64);
-    show::answer(math::uint_floordivpow2(a, b));
+fn uint_floordivpow2(rt: &impl Print, a: u32, b: u32) -> io::Result<()> {
+    show::call(rt, "uint_floordivpow2", a as u64, b as u64)?;
+    show::answer(rt, math::uint_floordivpow2(a, b))
 }
 
-fn uint_ceildivpow2(a: u32, b: u32) {
-    show::call(b"uint_ceildivpow2", a as u64, b as u64);
-    show::answer(math::uint_ceildivpow2(a, b));
+fn uint_ceildivpow2(rt: &impl Print, a: u32, b: u32) -> io::Result<()> {
+    show::call(rt, "uint_ceildivpow2", a as u64, b as u64)?;
+    show::answer(rt, math::uint_ceildivpow2(a, b))
 }
 
-fn resolution_bound(c: u32, level: u32) {
-    show::call(b"resolution_bound", c as u64, level as u64);
-    show::answer(precinct::resolution_bound(c, level));
+fn resolution_bound(rt: &impl Print, c: u32, level: u32) -> io::Result<()> {
+    show::call(rt, "resolution_bound", c as u64, level as u64)?;
+    show::answer(rt, precinct::resolution_bound(c, level))
 }
 
-fn each(a: u32, b: u32) {
-    uint_floordivpow2(a, b);
-    uint_ceildivpow2(a, b);
-    resolution_bound(a, b);
+fn each(rt: &impl Print, a: u32, b: u32) -> io::Result<()> {
+    uint_floordivpow2(rt, a, b)?;
+    uint_ceildivpow2(rt, a, b)?;
+    resolution_bound(rt, a, b)
 }
 
-pub(crate) fn all() {
-    for i in 0..32 {
-        let s = SHIFTS[i];
-        each(s.0, s.1);
+pub(crate) fn all(rt: &impl Print) -> io::Result<()> {
+    for s in &SHIFTS {
+        each(rt, s.0, s.1)?;
     }
+    Ok(())
 }

@@ -2,6 +2,7 @@
 use crate::show;
 use geometry::axis::Resolution;
 use geometry::precinct;
+use std::io;
 
 // From, to, and the precinct exponent.
 #[derive(Clone, Copy)]
@@ -47,27 +48,27 @@ const SPANS: [Span; 36] = [
     Span(0, 0xffff_ffff, 0xffff_ffff),
 ];
 
-fn precincts(r0: u32, r1: u32, pd: u32) {
-    show::call(b"precincts", r0 as u64, r1 as u64);
-    show::number(pd as u64);
-    show::answer(precinct::precincts(r0, r1, pd));
+fn precincts(rt: &impl Print, r0: u32, r1: u32, pd: u32) -> io::Result<()> {
+    show::call(rt, "precincts", r0 as u64, r1 as u64)?;
+    show::number(rt, pd as u64)?;
+    show::answer(rt, precinct::precincts(r0, r1, pd))
 }
 
-fn columns(r0: u32, r1: u32, pd: u32) {
-    show::call(b"columns", r0 as u64, r1 as u64);
-    show::number(pd as u64);
+fn columns(rt: &impl Print, r0: u32, r1: u32, pd: u32) -> io::Result<()> {
+    show::call(rt, "columns", r0 as u64, r1 as u64)?;
+    show::number(rt, pd as u64)?;
     let columns = Resolution { r0, r1 }.columns(pd);
-    show::two(columns.first, columns.count);
+    show::two(rt, columns.first, columns.count)
 }
 
-fn each(r0: u32, r1: u32, pd: u32) {
-    precincts(r0, r1, pd);
-    columns(r0, r1, pd);
+fn each(rt: &impl Print, r0: u32, r1: u32, pd: u32) -> io::Result<()> {
+    precincts(rt, r0, r1, pd)?;
+    columns(rt, r0, r1, pd)
 }
 
-pub(crate) fn all() {
-    for i in 0..36 {
-        let s = SPANS[i];
-        each(s.0, s.1, s.2);
+pub(crate) fn all(rt: &impl Print) -> io::Result<()> {
+    for s in &SPANS {
+        each(rt, s.0, s.1, s.2)?;
     }
+    Ok(())
 }

@@ -3,6 +3,7 @@
 use crate::show;
 use geometry::tile;
 use geometry::tile::{Area, Grid, Tile};
+use std::io;
 
 // The image x0 y0 x1 y1, the grid tx0 ty0 tdx tdy tw th, and the tile's number.
 #[derive(Clone, Copy)]
@@ -64,38 +65,33 @@ const CASES: [Case; 40] = [
     Case(0, 0, 100, 80, 0, 0, 32, 32, 0, 0, MAX),
 ];
 
-fn four(a: u32, b: u32, c: u32, d: u32) {
-    show::number(a as u64);
-    show::number(b as u64);
-    show::number(c as u64);
-    show::number(d as u64);
+fn four(rt: &impl Print, a: u32, b: u32, c: u32, d: u32) -> io::Result<()> {
+    print!(rt; " {a} {b} {c} {d}")
 }
 
-fn answer(t: Tile) {
+fn answer(rt: &impl Print, t: Tile) -> io::Result<()> {
     match t {
         Tile::Bounds(a) => {
-            io::write_all(1, b" =");
-            four(a.x0, a.y0, a.x1, a.y1);
-            io::write_all(1, b"\n");
+            print!(rt; " =")?;
+            four(rt, a.x0, a.y0, a.x1, a.y1)?;
+            println!(rt)
         }
-        Tile::Outside => {
-            io::write_all(1, b" = refused -10\n");
-        }
+        Tile::Outside => println!(rt; " = refused -10"),
     }
 }
 
-fn tile_bounds(image: Area, grid: Grid, n: u32) {
-    io::write_all(1, b"tile_bounds");
-    four(image.x0, image.y0, image.x1, image.y1);
-    io::write_all(1, b" of");
-    four(grid.tx0, grid.ty0, grid.tdx, grid.tdy);
-    show::call(b" by", grid.tw as u64, grid.th as u64);
-    io::write_all(1, b" at");
-    show::number(n as u64);
-    answer(tile::tile_bounds(image, grid, n));
+fn tile_bounds(rt: &impl Print, image: Area, grid: Grid, n: u32) -> io::Result<()> {
+    print!(rt; "tile_bounds")?;
+    four(rt, image.x0, image.y0, image.x1, image.y1)?;
+    print!(rt; " of")?;
+    four(rt, grid.tx0, grid.ty0, grid.tdx, grid.tdy)?;
+    show::call(rt, " by", grid.tw as u64, grid.th as u64)?;
+    print!(rt; " at")?;
+    show::number(rt, n as u64)?;
+    answer(rt, tile::tile_bounds(image, grid, n))
 }
 
-fn run(c: Case) {
+fn run(rt: &impl Print, c: &Case) -> io::Result<()> {
     let image = Area {
         x0: c.0,
         y0: c.1,
@@ -110,12 +106,12 @@ fn run(c: Case) {
         tw: c.8,
         th: c.9,
     };
-    tile_bounds(image, grid, c.10);
+    tile_bounds(rt, image, grid, c.10)
 }
 
-pub(crate) fn all() {
-    for i in 0..40 {
-        let c = CASES[i];
-        run(c);
+pub(crate) fn all(rt: &impl Print) -> io::Result<()> {
+    for c in &CASES {
+        run(rt, c)?;
     }
+    Ok(())
 }

@@ -1,6 +1,7 @@
 // The 64-bit division rounded up, whose quotient is taken modulo 2^32.
 use crate::show;
 use geometry::math;
+use std::io;
 
 #[derive(Clone, Copy)]
 struct Pair(u64, u64);
@@ -41,14 +42,14 @@ const PAIRS: [Pair; 32] = [
     Pair(0xffff_ffff_0000_0000, 0x1_0000_0000),
 ];
 
-fn uint64_ceildiv_res_uint32(a: u64, b: u64) {
-    show::call(b"uint64_ceildiv_res_uint32", a, b);
-    show::answer(math::uint64_ceildiv_res_uint32(a, b));
+fn uint64_ceildiv_res_uint32(rt: &impl Print, a: u64, b: u64) -> io::Result<()> {
+    show::call(rt, "uint64_ceildiv_res_uint32", a, b)?;
+    show::answer(rt, math::uint64_ceildiv_res_uint32(a, b))
 }
 
-pub(crate) fn all() {
-    for i in 0..32 {
-        let p = PAIRS[i];
-        uint64_ceildiv_res_uint32(p.0, p.1);
+pub(crate) fn all(rt: &impl Print) -> io::Result<()> {
+    for p in &PAIRS {
+        uint64_ceildiv_res_uint32(rt, p.0, p.1)?;
     }
+    Ok(())
 }
