@@ -1,6 +1,6 @@
 -- `put_number`: the digits that are printed, and the byte after them. Assumes nothing.
 use Rattle.std.proofs.Common.{◌∙◌, arith}
-use Rattle.listing.specs.Digits.{printed_decimal}
+use Rattle.listing.specs.Decimals.{printed_decimal}
 use Rattle.listing.specs.Put.{put_both}
 use Rattle.listing.proofs.text.put_number.Goals as goal
 
