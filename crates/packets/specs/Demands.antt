@@ -12,7 +12,8 @@ use Rattle.laws.specs.Runs.{marked}
 use Rattle.laws.specs.AllRuns.{joined}
 use Rattle.geometry.specs.Precinct.{across}
 use Rattle.geometry.specs.Line.{bound_of, count}
-use Rattle.geometry.specs.Tile.{tile_bounds_of, tile_standard}
+use Rattle.geometry.specs.Tile.{tile_bounds_of}
+use Rattle.geometry.proofs.Standard.{tile_standard}
 use Rattle.geometry.specs.declared.tile.Area.{Area}
 use Rattle.geometry.specs.declared.tile.Grid.{Grid}
 use Rattle.words.specs.Words.{words_bytes, over}

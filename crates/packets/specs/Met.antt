@@ -14,7 +14,8 @@ use Rattle.laws.specs.Members.{in_span}
 use Rattle.laws.specs.Mapped.{keep_from}
 use Rattle.laws.specs.Digits.{same-high, same-low}
 use Rattle.geometry.specs.Line.{Line, count, hit_at, column_of, hits}
-use Rattle.geometry.specs.Hits.{Proper, Ordered, proper, factors, col_below, hit_unique, hits-columns}
+use Rattle.geometry.specs.Hits.{Proper, Ordered}
+use Rattle.geometry.proofs.Hits.{proper, factors, col_below, hit_unique, hits-columns}
 use Rattle.packets.specs.Tile.{Sheet, line_x, line_y, res_of, width, height, precincts}
 use Rattle.packets.specs.Positions.{met, number_at}
 use Rattle.packets.specs.Good.{Good}

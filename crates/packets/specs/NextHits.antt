@@ -6,7 +6,7 @@ use Rattle.laws.specs.Cases.{le_or_lt, and_true, cond_some}
 use Rattle.laws.specs.Stride.{stride, stride_grows, stride_multiple, between}
 use Rattle.laws.specs.NestOnce.{Within}
 use Rattle.geometry.specs.Line.{Line, bound_of, low, high, count, hit_at}
-use Rattle.geometry.specs.Hits.{count_none, factors, no_hit_between}
+use Rattle.geometry.proofs.Hits.{count_none, factors, no_hit_between}
 use Rattle.packets.specs.Tile.{Sheet, line_x, line_y, res_of, width, height, precincts}
 use Rattle.types.specs.declared.order.Range.{Range}
 use Rattle.packets.specs.Grid.{step_x, step_y}

@@ -14,8 +14,9 @@ use borrow.Author.Tests.{lt-ltb, ltb-true}
 use Rattle.laws.specs.Cases.{split, and_true}
 use Rattle.laws.specs.Ceiling.{ceil_div}
 use Rattle.geometry.specs.Line.{low, high, count, first, column_of}
-use Rattle.geometry.specs.Cells.{cell_some, sample_in, in_sample, hit-cell}
-use Rattle.geometry.specs.Hits.{factors}
+use Rattle.geometry.specs.Cells.{cell_some, sample_in, in_sample}
+use Rattle.geometry.proofs.Cells.{hit-cell}
+use Rattle.geometry.proofs.Hits.{factors}
 use Rattle.geometry.specs.declared.tile.Area.{Area}
 use Rattle.types.specs.Answers.{RectangleSaid}
 use Rattle.types.specs.Orders.{by_points, order_of, range_of}

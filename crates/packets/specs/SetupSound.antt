@@ -10,7 +10,8 @@ use Rattle.laws.specs.Pointwise.{all_true}
 use Rattle.words.specs.Words.{over}
 use Rattle.words.specs.Laws.{Bytes, word_small, over-length}
 use Rattle.geometry.specs.Line.{count}
-use Rattle.geometry.specs.Hits.{Ordered, count-small}
+use Rattle.geometry.specs.Hits.{Ordered}
+use Rattle.geometry.proofs.Hits.{count-small}
 use Rattle.types.specs.Ranges.{within}
 use Rattle.packets.specs.Sheet.{wd, fields_of}
 use Rattle.packets.specs.Tile.{Sheet, dx_of, dy_of, res_of, level_of, line_x, line_y, width, height, reported, needed, entries_before, table_bytes}

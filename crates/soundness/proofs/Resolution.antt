@@ -11,7 +11,8 @@ use lib.Dec.{ltb, leb}
 use borrow.Author.Tests.{leb-true, ltb-true}
 use Rattle.laws.specs.Cases.{and_true}
 use Rattle.geometry.specs.Line.{Line, count, hit_at, column_of, meets_at}
-use Rattle.geometry.specs.Hits.{Ordered, proper, factors, col_below}
+use Rattle.geometry.specs.Hits.{Ordered}
+use Rattle.geometry.proofs.Hits.{proper, factors, col_below}
 use Rattle.packets.specs.Tile.{Sheet, line_x, line_y, width, height, precincts, entries_before}
 use Rattle.types.specs.Entries.{entry_at}
 use Rattle.packets.specs.Table.{entry_of, sheet_at}

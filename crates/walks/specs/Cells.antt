@@ -4,7 +4,7 @@ use Rattle.std.proofs.Math.Path.{sym}
 use Rattle.std.proofs.Common.{ap, ◌∙◌, arith, ltb-true, lt-ltb, ne_eqb}
 use Rattle.laws.specs.Cases.{split}
 use Rattle.geometry.specs.Line.{Line, step, whole, hit_at, column_of}
-use Rattle.geometry.specs.Hits.{factors, hit_quotient, pos_step}
+use Rattle.geometry.proofs.Hits.{factors, hit_quotient, pos_step}
 use Rattle.packets.specs.Tile.{Sheet, line_x, line_y, width, height, precincts}
 use Rattle.packets.specs.Good.{Good}
 use Rattle.packets.specs.Met.{precincts-of, precincts_in, MetAt, met-small}

@@ -7,7 +7,7 @@ use native.Mathlib.Omega.{arith}
 use Rattle.std.proofs.Math.Arith.{digits_lt}
 use Rattle.laws.specs.Cases.{le_or_lt, and_true, cond_some}
 use Rattle.geometry.specs.Line.{hit_at, column_of}
-use Rattle.geometry.specs.Hits.{factors, proper, hit_quotient, col_below}
+use Rattle.geometry.proofs.Hits.{factors, proper, hit_quotient, col_below}
 use Rattle.packets.specs.Tile.{Sheet, line_x, line_y, width, height, precincts}
 use Rattle.packets.specs.Grid.{step_x}
 use Rattle.packets.specs.InPlay.{play_x}
