@@ -1,5 +1,5 @@
 -- Setup's answer is sound: the state and the table that it writes describe the sheet that was read, and meet every test of soundness. Assumes nothing.
-use Rattle.std.specs.Prelude.{◌≡◌, List, ℕ, ◌-◌, ◌^◌, ◌≤◌, ◌<◌, get_or, leb}
+use Rattle.std.specs.Prelude.{◌≡◌, List, ℕ, ◌^◌, ◌≤◌, ◌<◌, get_or, leb}
 use Rattle.std.proofs.Math.Path.{refl, ap}
 use Rattle.std.proofs.Common.{sym, ◌∙◌, arith}
 use Rattle.std.proofs.Math.Bool.{true}
@@ -20,7 +20,7 @@ use Rattle.packets.specs.Table.{entry, table_of, entry_word, sheet_at, sheet_in}
 use Rattle.packets.specs.Sound.{tile_good, components_sound, progressions_sound, entry_sound, table_sound, reports_sound, sheet_sound, state_sound}
 use Rattle.packets.specs.Readback.{table-length, table_word}
 use Rattle.packets.specs.Reading.{Read}
-use Rattle.packets.specs.Fields.{tile-good, component-range, exponent_range_lem, components-sound, progressions-sound}
+use Rattle.packets.proofs.Fields.{tile-good, component-range, exponent_range_lem, components-sound, progressions-sound}
 use Rattle.packets.specs.Alike.{Alike, max_prec-same, max_res-same, dx_min-same, dy_min-same, grid_same}
 use Rattle.types.specs.declared.state.State.{State}
 
