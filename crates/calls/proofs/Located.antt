@@ -7,7 +7,7 @@ use Rattle.geometry.specs.Axis.{cell_of}
 use Rattle.geometry.specs.Cells.{cell-inside}
 use Rattle.packets.specs.Tile.{Sheet, line_x, line_y, width, precincts, rectangle}
 use Rattle.packets.specs.Table.{sheet_at}
-use Rattle.packets.specs.Rectangles.{column_row}
+use Rattle.packets.proofs.Rectangles.{column_row}
 use Rattle.types.specs.declared.state.State.{State}
 use Rattle.soundness.specs.Reached.{sides_of}
 use Rattle.calls.specs.Rectangle.{area_of}

@@ -22,7 +22,7 @@ use Rattle.types.specs.Answers.{SetUpSaid, of_set_up}
 use Rattle.packets.specs.Calls.{refusal, setup_verdict}
 use Rattle.types.specs.Signed.{negative}
 use Rattle.packets.specs.Reading.{read-good}
-use Rattle.packets.specs.Fields.{tile-good, components-sound, progressions-sound}
+use Rattle.packets.proofs.Fields.{tile-good, components-sound, progressions-sound}
 use Rattle.types.specs.declared.state.State.{State}
 use Rattle.types.specs.declared.answer.Verdict.TheVariants.{Accepted}
 use Rattle.types.specs.declared.answer.SetUp.{SetUp}

@@ -15,7 +15,7 @@ use Rattle.types.specs.Signed.{negative}
 use Rattle.packets.specs.Totals.{total}
 use Rattle.packets.specs.Calls.{Setup, setup_verdict, setup_of, total_of, Start, start_of}
 use Rattle.packets.specs.Meaning.{Fit, sound-means}
-use Rattle.packets.specs.WholeRun.{setup-passed, setup-accepts, accepted-sound}
+use Rattle.packets.proofs.WholeRun.{setup-passed, setup-accepts, accepted-sound}
 use Rattle.types.specs.declared.state.State.{State}
 use Rattle.types.specs.declared.followed.Followed.{Followed}
 use Rattle.types.specs.declared.answer.SetUp.{SetUp}

@@ -13,7 +13,8 @@ use Rattle.packets.specs.Table.{sheet_in}
 use Rattle.types.specs.Answers.{SetUpSaid, number_of, of_set_up}
 use Rattle.packets.specs.Calls.{Setup, setup_verdict, accepted, turned_away, Run, run_verdict, ran_over, whole_run_of}
 use Rattle.packets.specs.Meaning.{Sound, sound-means}
-use Rattle.packets.specs.WholeRun.{Passed, setup-passed, run-refuses, accepted-sound, accepted_clear}
+use Rattle.packets.specs.WholeRun.{Passed}
+use Rattle.packets.proofs.WholeRun.{setup-passed, run-refuses, accepted-sound, accepted_clear}
 use Rattle.types.specs.declared.answer.SetUp.{SetUp}
 use Rattle.types.specs.Signed.{negative}
 use Rattle.calls.specs.Room.{room_verdict, setup_in}

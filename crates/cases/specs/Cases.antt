@@ -37,7 +37,8 @@ use Rattle.packets.specs.Calls.{Setup, Start, Step, setup_verdict, setup_of, sta
 use Rattle.packets.specs.Traces.{Call, joins, opens, steps, Reply, joined as join_said, opened, stepped, Trace, traced}
 use Rattle.packets.specs.Text.{text_of, digits_up_to}
 use Rattle.packets.specs.Strided.{strided, points_for}
-use Rattle.packets.specs.InPlay.{next_x, next_y, next_in_play, in_play-listed}
+use Rattle.packets.specs.InPlay.{next_x, next_y, next_in_play}
+use Rattle.packets.proofs.InPlay.{in_play-listed}
 use Rattle.types.specs.declared.state.State.{State}
 use Rattle.types.specs.declared.followed.Followed.{Followed}
 use Rattle.types.specs.declared.cursor.Position.{Position}

@@ -2,7 +2,7 @@
 use Rattle.std.proofs.Common.{◌≡◌, ℕ, ◌%◌, ◌^◌, ◌<◌, ◌≤◌, true, false, not, eqb, sym, ◌∙◌, le-ltb, lt-ltb, eq-eqb, ne_eqb, le-leb}
 use borrow.Author.Tests.{lt-leb}
 use Rattle.geometry.specs.Line.{Line, bound_of, step, hit_at, meets_at}
-use Rattle.geometry.specs.Hits.{whole_law}
+use Rattle.geometry.proofs.Hits.{whole_law}
 
 module _ (s : Line) (x : ℕ) where
   -- a point outside of the tile

@@ -1,17 +1,15 @@
--- The precincts of an axis of a resolution, cell by cell: every sample lies in one and in no other, none is empty, and where a walk meets one it starts.
+-- The precincts of an axis of a resolution, cell by cell: every sample lies in one and in no other, and none is empty.
 -- Assumes nothing.
-use Rattle.std.specs.Prelude.{◌≡◌, ℕ, ◌+◌, ◌-◌, ◌*◌, ◌/◌, ◌^◌, ◌<◌, ◌≤◌, min, max, true, nat_lt}
-use Rattle.std.proofs.Common.{ap, ◌∙◌, add-mul, mul_comm, mul_assoc, mul-pos, lt-ltb, ltb-true}
+use Rattle.std.specs.Prelude.{◌≡◌, ℕ, ◌+◌, ◌-◌, ◌*◌, ◌/◌, ◌^◌, ◌<◌, ◌≤◌, min, max, nat_lt}
+use Rattle.std.proofs.Common.{add-mul, lt-ltb, ltb-true}
 use Rattle.std.proofs.Math.Logic.{⊎_elim}
 use Rattle.std.proofs.Math.Nat.{div-mul-le_self, lt-div-mul-add, div-eq_of_lt-le}
 use native.Mathlib.Omega.{arith}
 use Rattle.std.proofs.Math.Pow.{pow_pos, shr_mono}
 use Rattle.laws.specs.Cases.{le_or_lt, cond_some}
-use Rattle.laws.specs.Ceiling.{ceil_div, ceil_below, below_ceil, ceil_le, ceil_mono, ceil_times, ceil_small}
+use Rattle.laws.specs.Ceiling.{ceil_div, ceil_below, below_ceil, ceil_le, ceil_small}
 use Rattle.geometry.specs.Precinct.{across, cell_from, cell_to}
-use Rattle.geometry.specs.Line.{Line, low, step, first, cell_low, hit_at, column_of}
 use Rattle.geometry.specs.Fitted.{fitted, least_of, fitted-small, fitted-least}
-use Rattle.geometry.specs.Hits.{bound_law, step_law, hit-corner}
 
 module _ (r0 r1 pd : ℕ) where
   abbrev size : ℕ
@@ -88,23 +86,3 @@ module _ (r0 r1 pd : ℕ) where
   pub in_sample : (i u : ℕ) → cell_from r0 pd i ≤ u → u < cell_to r0 r1 pd i → (r0 ≤ u) × (u < r1) × (u / size ≡ cell + i)
   unfolding cell_from cell_to
   in_sample i u p q = (omega arith, omega arith, div-eq_of_lt-le {k = cell + i} size (omega arith) (omega arith))
-
--- THE CORNER: the point at which a walk meets a precinct is, as a sample of the resolution, where the precinct starts
-pub hit-cell : (s : Line) → 1 ≤ s.d → (x : ℕ) → s.t0 ≤ x → hit_at s x ≡ true → ceil_div x (s.d * 2 ^ s.level) ≡ cell_low s (column_of s x)
-unfolding cell_from
-hit-cell s h x p e =
-    let D : ℕ = s.d * 2 ^ s.level in
-    let d : 1 ≤ D = mul-pos h (pow_pos s.level) in
-    let k : ℕ = first s + column_of s x in
-    let turned : k * step s ≡ k * 2 ^ s.pd * D = rw (step_law s.d s.level s.pd, mul_comm D (2 ^ s.pd), mul_assoc k (2 ^ s.pd) D) in
-    let start : low s ≡ ceil_div s.t0 D = bound_law s.t0 s.d s.level in
-    let there : ceil_div (k * step s) D ≡ k * 2 ^ s.pd = rw turned (ceil_times D d (k * 2 ^ s.pd)) in
-    ap (λ (n : ℕ). ceil_div n D) (hit-corner s h x p e)
-    ∙ ⊎_elim
-    (λ (l : s.t0 ≤ k * step s).
-    let m : max s.t0 (k * step s) ≡ k * step s = omega arith in
-    rw (m, there) (omega (arith, start, there, ceil_mono D d s.t0 (k * step s) l)))
-    (λ (l : k * step s < s.t0).
-    let m : max s.t0 (k * step s) ≡ s.t0 = omega arith in
-    rw m (omega (arith, start, there, ceil_mono D d (k * step s) s.t0 (omega arith))))
-    (le_or_lt s.t0 (k * step s))

@@ -1,6 +1,6 @@
--- The bounds of a tile: as 01 has them ('Tile bounds'), as T.800 has them (B.3), and that the two agree where nothing wraps.
+-- The bounds of a tile: as 01 has them ('Tile bounds'), and as T.800 has them (B.3). Where nothing wraps the two agree: on one axis here, for the tile in proofs/Standard.
 use Rattle.std.specs.Prelude.{◌≡◌, ℕ, ◌+◌, ◌*◌, ◌/◌, ◌%◌, ◌^◌, ◌<◌, min, max, cond, [], ◌∷◌, nat_lt}
-use Rattle.std.proofs.Common.{mod-eq_of_lt, add-mul, one-mul, arith, lt-ltb}
+use Rattle.std.proofs.Common.{mod-eq_of_lt, add-mul, one-mul, arith}
 use Rattle.geometry.specs.Math.{add_sat}
 use Rattle.geometry.specs.Said.{Said, value, refusal}
 use Rattle.geometry.specs.declared.tile.Side.{Side}
@@ -45,19 +45,8 @@ pub record Unwrapped (image : Area) (g : Grid) (n : ℕ) : Type 0 where
   pub right : image.x1 < 2 ^ 32
   pub bottom : image.y1 < 2 ^ 32
 
-side_standard : (i0 i1 origin p size : ℕ) → origin + p * size < 2 ^ 32 → i1 < 2 ^ 32 → side_of i0 i1 origin p size ≡ standard_side i0 i1 origin p size
+pub side_standard : (i0 i1 origin p size : ℕ) → origin + p * size < 2 ^ 32 → i1 < 2 ^ 32 → side_of i0 i1 origin p size ≡ standard_side i0 i1 origin p size
 side_standard i0 i1 origin p size h k =
     let small : p * size < 2 ^ 32 = omega arith in
     let end : min i1 (add_sat (origin + p * size) size) ≡ min (origin + (p + 1) * size) i1 = omega (arith, add-mul p 1 size, one-mul size) in
     rw (mod-eq_of_lt small, mod-eq_of_lt h, end)
-
--- where nothing wraps, 01's tile bounds are T.800's
-pub tile_standard : (image : Area) (g : Grid) (n : ℕ) → Unwrapped image g n → tile_bounds_of image g n ≡ standard_tile image g n
-unfolding tile_bounds_of
-tile_standard image g n u =
-    let below : n < g.tw * g.th % 2 ^ 32 = rw (mod-eq_of_lt u.few) u.number in
-    let x : side_of image.x0 image.x1 g.tx0 (n % g.tw) g.tdx ≡ standard_side image.x0 image.x1 g.tx0 (n % g.tw) g.tdx
-    = side_standard _ _ _ _ _ u.column u.right in
-    let y : side_of image.y0 image.y1 g.ty0 (n / g.tw) g.tdy ≡ standard_side image.y0 image.y1 g.ty0 (n / g.tw) g.tdy
-    = side_standard _ _ _ _ _ u.row u.bottom in
-    rw (lt-ltb _ _ below) (λ i. corners (x i) (y i))

@@ -20,13 +20,14 @@ use Rattle.packets.specs.Table.{sheet_in, table_of}
 use Rattle.packets.specs.Calls.{refusal, accepted, setup_verdict, listed, records_of, Run, run_verdict, ran_over, whole_run_of}
 use Rattle.packets.specs.Meaning.{Sound, sound-means}
 use Rattle.packets.specs.Text.{decimal, lines_of, refused_line, text_of}
-use Rattle.packets.specs.WholeRun.{Passed, setup-passed, accepted-sound, run-refuses}
+use Rattle.packets.specs.WholeRun.{Passed}
+use Rattle.packets.proofs.WholeRun.{setup-passed, accepted-sound, run-refuses}
 use Rattle.types.specs.declared.state.State.{State}
 use Rattle.types.specs.declared.cursor.Position.{Position}
 use Rattle.listing.specs.Lines.{lines_at}
 use Rattle.listing.specs.Records.{output-lines}
 use Rattle.listing.specs.Padded.{padded-listed}
-use Rattle.packets.specs.Admitted.{listed-few}
+use Rattle.packets.proofs.Admitted.{listed-few}
 
 -- where a verdict is one before the table's, the table does not matter
 tested : (read grid many enough room : Bool) (v : ℕ) → (cond read (cond grid (cond many (cond enough 0 6) 5) 4) v ≡ 0 → ⊥)

@@ -1,14 +1,14 @@
 -- What is a position of a progression: the exact law of membership, and what every position has. Assumes nothing.
-use Rattle.std.specs.Prelude.{◌≡◌, true, false, cond, ◌↔◌, ℕ, ◌+◌, ◌≤◌, ◌<◌, ltb}
+use Rattle.std.specs.Prelude.{◌≡◌, true, false, cond, ◌↔◌, ℕ, ◌+◌, ◌≤◌, ◌<◌}
 use Rattle.std.proofs.Math.Path.{refl}
-use Rattle.std.proofs.Common.{sym, ◌∙◌, true≢false, ⊎_elim, zero-le, arith, leb-true}
+use Rattle.std.proofs.Common.{sym, ◌∙◌, true≢false, ⊎_elim, zero-le, arith}
 use Rattle.std.proofs.lemmas.Bool.{false≢true}
 use mathlib.Core.List.Memᴰ.{cases_cons as in_cons}
 use mathlib.Core.List.Memᴰ.{head as here}
 use mathlib.Core.List.Memᴰ.{not-nil as not_in_nil}
 use mathlib.Core.List.Memᴰ.{tail as there}
 use mathlib.Core.List.{List, [], ◌∷◌, Memᴰ as In}
-use Rattle.laws.specs.Cases.{and_true, split}
+use Rattle.laws.specs.Cases.{split}
 use Rattle.laws.specs.Nest.{nest, Alike, alike-nest}
 use Rattle.laws.specs.NestOnce.{Within, nest-kept, nest-within, within-nest}
 use Rattle.types.specs.State.{origin}
@@ -20,8 +20,7 @@ use Rattle.types.specs.declared.order.Range.{Range}
 use Rattle.packets.specs.Positions.{loops_of, has_positions, positions_in, met, number_at}
 use Rattle.packets.specs.Same.{same_position, same_true}
 use Rattle.packets.specs.Sound.{is_in}
-use Rattle.packets.specs.Good.{Good}
-use Rattle.packets.specs.Met.{MetAt, precincts_in, met-small}
+use Rattle.packets.specs.Met.{MetAt}
 use Rattle.packets.specs.Loops.{loops_apart, loops_steady, loops_plain, loops_back}
 use Rattle.types.specs.declared.cursor.Position.{Position}
 
@@ -114,7 +113,7 @@ pub record InRange (g : Range) (p : Position) : Type 0 where
   pub component_to : p.compno < g.compno1
 
 module _ (s : Sheet) (g : Range) where
-  ranged : (o : Order) → has_positions s g o ≡ true → (p : Position) → Within (loops_of s g o) p → InRange g p
+  pub ranged : (o : Order) → has_positions s g o ≡ true → (p : Position) → Within (loops_of s g o) p → InRange g p
   ranged lrcp h p w = search refl depth 8
   ranged rlcp h p w = search refl depth 8
   ranged rpcl h p w = search refl depth 8
@@ -130,7 +129,7 @@ module _ (s : Sheet) (g : Range) where
       (λ t. let k : p.precno < number_at s p = rw t at b in absurd (let z : ⊥ = omega arith in z))
 
   -- what is within the loops of orders 2 to 4 is met
-  pointed : (o : Order) → by_points o ≡ true → (p : Position) → Within (loops_of s g o) p → MetAt s p
+  pub pointed : (o : Order) → by_points o ≡ true → (p : Position) → Within (loops_of s g o) p → MetAt s p
   pointed lrcp h p w = absurd (false≢true h)
   pointed rlcp h p w = absurd (false≢true h)
   pointed rpcl h p w = let m = only-met p w.2.2.2.2.0 w.2.2.2.2.1 in search refl depth 8
@@ -196,20 +195,3 @@ module _ (s : Sheet) (g : Range) where
   good-has pcrl n h = h
   good-has cprl n h = h
   good-has other n h = absurd (n refl)
-
-  module _ (good : Good s) where
-    small : (o : Order) → has_positions s g o ≡ true → (p : Position) → p.compno < s.st.components → Within (loops_of s g o) p → p.precno < precincts s p.compno p.resno
-    small lrcp h p c w = omega arith
-    small rlcp h p c w = omega arith
-    small rpcl h p c w = met-small s good p c (pointed rpcl refl p w)
-    small pcrl h p c w = met-small s good p c (pointed pcrl refl p w)
-    small cprl h p c w = met-small s good p c (pointed cprl refl p w)
-    small other h p c w = absurd (false≢true h)
-
-    -- every position of a progression is a packet of the tile
-    pub inside : (o : Order) (p : Position) → In p (positions_in s g o) → Inside s p
-    inside o p m =
-        let w = (in_positions s g o p).0 m in
-        let c : p.compno < s.st.components = omega (arith, leb-true g.compno1 _ (and_true (ltb g.compno0 _) _ (has-good o w.0)).1, (ranged o w.0 p w.1).component_to) in
-        let k = small o w.0 p c w.1 in
-        record { component = c; resolution = precincts_in s p.compno p.resno (omega arith); precinct = k }

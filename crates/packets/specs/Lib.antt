@@ -1,4 +1,5 @@
--- What is right: sheets, tiles, positions, soundness and the calls, from document 01 and ITU-T T.800; then the theorems about these definitions.
+-- What is right: sheets, tiles, positions, soundness and the calls, from document 01 and ITU-T T.800; then theorems about these definitions, and what those of
+-- proofs/ speak of, the demands among them.
 -- The order is that of reading.
 pub mod Sheet
 pub mod Tile
@@ -18,7 +19,6 @@ pub mod Standard
 pub mod Wanted
 pub mod Host
 pub mod Traces
-pub mod Counts
 pub mod Strided
 pub mod Skips
 pub mod NextHits
@@ -28,33 +28,24 @@ pub mod InPlay
 pub mod Met
 pub mod Inside
 pub mod Ended
-pub mod Once
 pub mod WholeTile
 pub mod Resume
 pub mod Readback
 pub mod Reading
-pub mod Fields
 pub mod Alike
-pub mod SetupSound
 pub mod Meaning
-pub mod Entered
 pub mod Steps
 pub mod Rectangles
 pub mod Seen
 pub mod Turns
 pub mod Run
-pub mod Admitted
 pub mod Among
 pub mod Counting
 pub mod WholeRun
-pub mod Own
-pub mod Firsts
-pub mod OwnRun
 pub mod Accepted
 pub mod Written
 pub mod Rows
 pub mod Rebuilt
-pub mod Recovered
 pub mod Origin
 pub mod Refusals
 pub mod Demands

@@ -1,6 +1,6 @@
 -- Resuming: what is after a position of a progression is what its loops have left when they start from that position's numbers, the innermost from the next.
 -- Assumes nothing.
-use Rattle.std.specs.Prelude.{◌≡◌, true, false, ℕ, ◌+◌}
+use Rattle.std.specs.Prelude.{◌≡◌, true, ℕ, ◌+◌}
 use Rattle.std.proofs.Math.Path.{refl, sym}
 use Rattle.std.proofs.Common.{ap, ◌∙◌, true≢false}
 use mathlib.Core.List.{List, [], ◌∷◌, Memᴰ as In}

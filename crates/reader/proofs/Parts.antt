@@ -13,7 +13,7 @@ use Rattle.laws.specs.Filled.{filled_none, filled_more}
 use Rattle.types.specs.State.{no_progression, no_reports, empty_state}
 use Rattle.types.specs.Ranges.{within}
 use Rattle.packets.specs.Sheet.{wd, component_record, progression_record, progression_at, array_of, fields_of, read_verdict}
-use Rattle.packets.specs.Fields.{tile-good}
+use Rattle.packets.proofs.Fields.{tile-good}
 use Rattle.packets.specs.Reading.{read-good}
 use Rattle.types.specs.declared.state.Progression.{Progression}
 use Rattle.types.specs.declared.state.State.{State}

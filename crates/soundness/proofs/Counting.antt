@@ -26,8 +26,8 @@ use Rattle.packets.specs.Positions.{has_positions}
 use Rattle.packets.specs.Table.{sheet_at}
 use Rattle.packets.specs.Totals.{layers_by, layers_admitted, total}
 use Rattle.packets.specs.Meaning.{Sound, Fit, sound-means}
-use Rattle.packets.specs.Entered.{few_before, few-precincts}
-use Rattle.packets.specs.Admitted.{total-few}
+use Rattle.packets.proofs.Entered.{few_before, few-precincts}
+use Rattle.packets.proofs.Admitted.{total-few}
 use Rattle.soundness.specs.Totals.{is_order, layers_for, with_layers, range_at, put_range, Ranged, between, Raised, layers_in, layers_over, precincts_at, packets_of, Few}
 use Rattle.soundness.specs.Reached.{Reached}
 use Rattle.soundness.proofs.Resolution.{entry, count_is}

@@ -20,7 +20,8 @@ use Rattle.packets.specs.Sound.{is_in}
 use Rattle.packets.specs.Meaning.{fit-good}
 use Rattle.packets.specs.Good.{Good}
 use Rattle.packets.specs.Met.{MetAt}
-use Rattle.packets.specs.Inside.{has-good, is_in_lem, in_is, positions_none, in_positions, in_range_lem, in_met, in_still, listed-point, listed_still, InRange, inside}
+use Rattle.packets.specs.Inside.{has-good, is_in_lem, in_is, positions_none, in_positions, in_range_lem, in_met, in_still, listed-point, listed_still, InRange}
+use Rattle.packets.proofs.Inside.{inside}
 use Rattle.types.specs.declared.state.State.{State}
 use Rattle.types.specs.declared.cursor.Position.{Position}
 use Rattle.soundness.specs.Points.{in_range, counted_of, met_in, position_test}

@@ -20,7 +20,7 @@ use Rattle.packets.specs.Grid.{change_of}
 use Rattle.packets.specs.Table.{sheet_at}
 use Rattle.packets.specs.Totals.{layers_by, layers_admitted, total}
 use Rattle.packets.specs.Meaning.{Fit}
-use Rattle.packets.specs.Entered.{few_before, few-precincts}
+use Rattle.packets.proofs.Entered.{few_before, few-precincts}
 use Rattle.soundness.specs.Totals.{layers_for, between, precincts_at, precincts_from, FewFrom}
 use Rattle.soundness.proofs.Counting.{layers_by_lem, same-sum, admitted_of, admitted_below, admitted-all, precincts_are}
 

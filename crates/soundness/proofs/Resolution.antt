@@ -11,13 +11,14 @@ use lib.Dec.{ltb, leb}
 use borrow.Author.Tests.{leb-true, ltb-true}
 use Rattle.laws.specs.Cases.{and_true}
 use Rattle.geometry.specs.Line.{Line, count, hit_at, column_of, meets_at}
-use Rattle.geometry.specs.Hits.{Ordered, proper, factors, col_below}
+use Rattle.geometry.specs.Hits.{Ordered}
+use Rattle.geometry.proofs.Hits.{proper, factors, col_below}
 use Rattle.packets.specs.Tile.{Sheet, line_x, line_y, width, height, precincts, entries_before}
 use Rattle.types.specs.Entries.{entry_at}
 use Rattle.packets.specs.Table.{entry_of, sheet_at}
 use Rattle.packets.specs.Meaning.{Sound, fit-good}
-use Rattle.packets.specs.Entered.{entry-small, entry_is, few-precincts}
-use Rattle.packets.specs.Met.{precincts-of, ordered_x, ordered_y}
+use Rattle.packets.proofs.Entered.{entry-small, entry_is, few-precincts}
+use Rattle.packets.proofs.MetOnce.{precincts-of, ordered_x, ordered_y}
 use Rattle.types.specs.declared.state.State.{State}
 use Rattle.types.specs.declared.table.Entry.{Entry}
 use Rattle.types.specs.declared.cursor.Position.{Position}

@@ -11,7 +11,8 @@ use Rattle.packets.specs.Sound.{followed_sound}
 use Rattle.packets.specs.Calls.{run_verdict}
 use Rattle.packets.specs.Meaning.{Sound, sound-means}
 use Rattle.packets.specs.Host.{most_steps, Hosted, call_runs}
-use Rattle.packets.specs.Run.{listing_of, all, run-unlisted}
+use Rattle.packets.specs.Run.{listing_of}
+use Rattle.packets.proofs.Run.{all, run-unlisted}
 use Rattle.types.specs.declared.state.State.{State}
 use Rattle.types.specs.declared.answer.SetUp.{SetUp}
 use Rattle.types.specs.declared.cursor.Position.{Position}

@@ -17,7 +17,7 @@ use Rattle.types.specs.Totals.{started_with, total_for, with_total, with_same}
 use Rattle.packets.specs.Tile.{index_of}
 use Rattle.packets.specs.Sound.{positions_for, sound}
 use Rattle.packets.specs.Calls.{after, Step, open_of, step_by, step_of}
-use Rattle.packets.specs.Steps.{step_searches, step_refused}
+use Rattle.packets.proofs.Steps.{step_searches, step_refused}
 use Rattle.packets.specs.Host.{Called, then_rest, call_steps, Turn, turn_by, call_turn, Hosted, call_runs, most_steps, answered}
 use Rattle.types.specs.declared.state.State.{State}
 use Rattle.types.specs.declared.followed.Followed.{Followed}

@@ -22,7 +22,7 @@ use Rattle.packets.specs.Table.{entry, table_words, entry_word, sheet_at, sheet_
 use Rattle.packets.specs.Sound.{entry_sound}
 use Rattle.packets.specs.Readback.{words_length}
 use Rattle.packets.specs.Reading.{Read}
-use Rattle.packets.specs.Fields.{res_is, tile-good, component-range, exponent_range_lem}
+use Rattle.packets.proofs.Fields.{res_is, tile-good, component-range, exponent_range_lem}
 use Rattle.packets.specs.Alike.{Alike, max_prec-same, dx_min-same, dy_min-same, grid_same}
 use Rattle.types.specs.declared.state.State.{State}
 use Rattle.survey.specs.declared.Source.{Source}

@@ -4,10 +4,11 @@ use Rattle.std.proofs.Math.Path.{sym}
 use Rattle.std.proofs.Common.{ap, ◌∙◌, arith, ltb-true, lt-ltb, ne_eqb}
 use Rattle.laws.specs.Cases.{split}
 use Rattle.geometry.specs.Line.{Line, step, whole, hit_at, column_of}
-use Rattle.geometry.specs.Hits.{factors, hit_quotient, pos_step}
+use Rattle.geometry.proofs.Hits.{factors, hit_quotient, pos_step}
 use Rattle.packets.specs.Tile.{Sheet, line_x, line_y, width, height, precincts}
 use Rattle.packets.specs.Good.{Good}
-use Rattle.packets.specs.Met.{precincts-of, precincts_in, MetAt, met-small}
+use Rattle.packets.specs.Met.{MetAt}
+use Rattle.packets.proofs.MetOnce.{precincts-of, precincts_in, met-small}
 use Rattle.packets.specs.Positions.{met, number_at}
 use Rattle.types.specs.declared.cursor.Position.{Position}
 use Rattle.walks.specs.Prepared.{width_in, along_x, along_y, along_of, hit_by, column_by, Entry, AtPoint, point_of, cell_of}

@@ -10,7 +10,7 @@ use Rattle.laws.specs.NestMoved.{no_turn, one_and_later}
 use Rattle.packets.specs.Tile.{Sheet, precincts, index_of}
 use Rattle.types.specs.declared.order.Range.{Range}
 use Rattle.packets.specs.Positions.{components, every_precinct}
-use Rattle.packets.specs.Met.{precincts_in}
+use Rattle.packets.proofs.MetOnce.{precincts_in}
 use Rattle.packets.specs.Inside.{Inside}
 use Rattle.types.specs.declared.cursor.Position.{Position}
 use Rattle.walks.specs.Prepared.{number_in}

@@ -7,11 +7,11 @@ use Rattle.laws.specs.Cases.{le_or_lt}
 use Rattle.laws.specs.Below.{sum_none, sum_more}
 use Rattle.geometry.specs.Line.{Line, bound_of, step}
 use Rattle.geometry.specs.Fitted.{fitted-small}
-use Rattle.geometry.specs.Hits.{whole_law}
+use Rattle.geometry.proofs.Hits.{whole_law}
 use Rattle.packets.specs.Tile.{Sheet, line_x, line_y, res_of, precincts, entries_before}
 use Rattle.types.specs.Entries.{entry_at}
 use Rattle.packets.specs.Table.{sheet_at}
-use Rattle.packets.specs.Met.{precincts-of}
+use Rattle.packets.proofs.MetOnce.{precincts-of}
 use Rattle.types.specs.declared.state.State.{State}
 use Rattle.walks.specs.declared.prepared.Along.{Along}
 use Rattle.walks.specs.declared.prepare.Side.{Side}

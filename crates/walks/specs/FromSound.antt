@@ -3,9 +3,9 @@ use Rattle.std.specs.Prelude.{ℕ, ◌≤◌, ◌<◌, ◌≡◌, refl, List, ge
 use Rattle.std.proofs.Common.{arith}
 use Rattle.packets.specs.Table.{sheet_at}
 use Rattle.packets.specs.Good.{Good}
-use Rattle.packets.specs.Met.{precincts-of, precincts_in}
+use Rattle.packets.proofs.MetOnce.{precincts-of, precincts_in}
 use Rattle.packets.specs.Meaning.{StepsFit, Sound, sound-means, sound-good}
-use Rattle.packets.specs.Entered.{few_before, entry_is, few-precincts}
+use Rattle.packets.proofs.Entered.{few_before, entry_is, few-precincts}
 use Rattle.types.specs.declared.state.State.{State}
 use Rattle.walks.specs.Prepared.{InPlay}
 use Rattle.walks.specs.Prepare.{Filled, Components, AllDone}

@@ -6,7 +6,7 @@ use Rattle.packets.specs.Tile.{Sheet, needed, index_of}
 use Rattle.types.specs.declared.order.Range.{Range}
 use Rattle.packets.specs.Good.{Good}
 use Rattle.packets.specs.Inside.{Inside}
-use Rattle.packets.specs.Once.{index_below}
+use Rattle.packets.proofs.Once.{index_below}
 use Rattle.types.specs.declared.cursor.Position.{Position}
 use Rattle.walks.specs.Walk.{index_by, Ranged}
 use Rattle.walks.specs.declared.walk.Walk.{Walk}

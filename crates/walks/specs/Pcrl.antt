@@ -15,7 +15,8 @@ use Rattle.packets.specs.Positions.{loops_of, layers, resolutions, components, r
 use Rattle.packets.specs.Strided.{everything}
 use Rattle.packets.specs.Grid.{step_x, step_y}
 use Rattle.packets.specs.Skips.{skip_rows, skip_columns}
-use Rattle.packets.specs.InPlay.{next_before, next_in_play, play_x, play_y, next_x, next_y, next_x_grows, next_y_grows, next_x_ends, next_y_ends, in_play-passes}
+use Rattle.packets.specs.InPlay.{next_before, next_in_play, play_x, play_y, next_x, next_y}
+use Rattle.packets.proofs.InPlay.{next_x_grows, next_y_grows, next_x_ends, next_y_ends, in_play-passes}
 use Rattle.types.specs.declared.cursor.Position.{Position}
 use Rattle.walks.specs.Prepared.{point_of, at_row, range_by}
 use Rattle.walks.specs.Walk.{Ready}

@@ -18,10 +18,12 @@ use Rattle.packets.specs.Grid.{change_of}
 use Rattle.packets.specs.Sound.{positions_for}
 use Rattle.packets.specs.Meaning.{Sound, StepsFit, ComponentsIn, Agreed, components_in-means, sound-good, sound-means}
 use Rattle.packets.specs.Good.{Good}
-use Rattle.packets.specs.Ended.{ended_at, positions_ended}
-use Rattle.packets.specs.Inside.{has-good, good-has, positions_none, in_positions, in_range_lem, inside}
-use Rattle.packets.specs.Once.{below_most}
-use Rattle.packets.specs.Turns.{layers-within}
+use Rattle.packets.specs.Ended.{ended_at}
+use Rattle.packets.proofs.Ended.{positions_ended}
+use Rattle.packets.specs.Inside.{has-good, good-has, positions_none, in_positions, in_range_lem}
+use Rattle.packets.proofs.Inside.{inside}
+use Rattle.packets.proofs.Once.{below_most}
+use Rattle.packets.proofs.Turns.{layers-within}
 use Rattle.types.specs.declared.state.State.{State}
 use Rattle.types.specs.declared.state.Progression.{Progression}
 use Rattle.packets.specs.Calls.{after}

@@ -7,11 +7,11 @@ use native.Mathlib.Omega.{arith}
 use Rattle.std.proofs.Math.Arith.{digits_lt}
 use Rattle.laws.specs.Cases.{le_or_lt, and_true, cond_some}
 use Rattle.geometry.specs.Line.{hit_at, column_of}
-use Rattle.geometry.specs.Hits.{factors, proper, hit_quotient, col_below}
+use Rattle.geometry.proofs.Hits.{factors, proper, hit_quotient, col_below}
 use Rattle.packets.specs.Tile.{Sheet, line_x, line_y, width, height, precincts}
 use Rattle.packets.specs.Grid.{step_x}
 use Rattle.packets.specs.InPlay.{play_x}
-use Rattle.packets.specs.Met.{precincts-of, precincts_in, ordered_y}
+use Rattle.packets.proofs.MetOnce.{precincts-of, precincts_in, ordered_y}
 use Rattle.packets.specs.Positions.{met}
 use Rattle.walks.specs.Prepared.{number_in, put_number, width_in, along_x, along_y, hit_by, column_by, Entry, AtPoint, at_row, cell_of}
 use Rattle.walks.specs.Cells.{some, wide_of, hit_y, cell_no_column, column_from, number-small, cell-met}

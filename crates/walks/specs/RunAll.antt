@@ -18,8 +18,8 @@ use Rattle.packets.specs.Grid.{change_of}
 use Rattle.packets.specs.Sound.{positions_for}
 use Rattle.packets.specs.Calls.{listed, records_of}
 use Rattle.packets.specs.Meaning.{Sound, sound-means}
-use Rattle.packets.specs.Steps.{sound-length}
-use Rattle.packets.specs.Turns.{mark-needed}
+use Rattle.packets.proofs.Steps.{sound-length}
+use Rattle.packets.proofs.Turns.{mark-needed}
 use Rattle.types.specs.declared.state.State.{State}
 use Rattle.types.specs.declared.cursor.Position.{Position}
 use Rattle.walks.specs.Counting.{AllCounted}

@@ -14,7 +14,7 @@ use Rattle.packets.specs.Calls.{after}
 use Rattle.packets.specs.Good.{Good}
 use Rattle.packets.specs.Inside.{InRange, in_range_lem, in_met}
 use Rattle.packets.specs.Met.{MetAt}
-use Rattle.packets.specs.Once.{index_small}
+use Rattle.packets.proofs.Once.{index_small}
 use Rattle.packets.specs.Resume.{resume_fresh, resume_behind}
 use Rattle.types.specs.declared.cursor.Position.{Position}
 use Rattle.types.specs.declared.cursor.Place.TheVariants as place

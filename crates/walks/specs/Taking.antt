@@ -9,8 +9,9 @@ use Rattle.packets.specs.Tile.{res_of, max_res, stride_r, stride_l, needed, inde
 use Rattle.packets.specs.Sound.{positions_for}
 use Rattle.packets.specs.Calls.{after}
 use Rattle.packets.specs.Meaning.{Sound}
-use Rattle.packets.specs.Steps.{as_cursor, after_as}
-use Rattle.packets.specs.Turns.{mark-needed}
+use Rattle.packets.specs.Steps.{as_cursor}
+use Rattle.packets.proofs.Steps.{after_as}
+use Rattle.packets.proofs.Turns.{mark-needed}
 use Rattle.packets.specs.Same.{same}
 use Rattle.types.specs.declared.state.State.{State}
 use Rattle.types.specs.declared.cursor.Position.{Position}

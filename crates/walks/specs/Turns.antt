@@ -6,7 +6,8 @@ use native.Mathlib.Omega.{arith}
 use Rattle.packets.specs.Tile.{Sheet, precincts}
 use Rattle.types.specs.declared.order.Range.{Range}
 use Rattle.packets.specs.Positions.{met, number_at}
-use Rattle.packets.specs.Met.{MetAt, met-small, precincts_in}
+use Rattle.packets.specs.Met.{MetAt}
+use Rattle.packets.proofs.MetOnce.{met-small, precincts_in}
 use Rattle.packets.specs.Inside.{Inside}
 use Rattle.types.specs.declared.cursor.Position.{Position}
 use Rattle.walks.specs.Prepared.{InPlay, AtPoint, point_of, cell_of}

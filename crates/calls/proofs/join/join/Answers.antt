@@ -7,7 +7,7 @@ use Rattle.laws.specs.Marks.{cleared_to}
 use Rattle.types.specs.Totals.{with_total}
 use Rattle.packets.specs.Calls.{Join, join_of}
 use Rattle.packets.specs.Meaning.{followed_means}
-use Rattle.packets.specs.Steps.{join-good}
+use Rattle.packets.proofs.Steps.{join-good}
 use Rattle.soundness.specs.Needs.{needs_told}
 use Rattle.calls.proofs.join.join.Goals as goal
 

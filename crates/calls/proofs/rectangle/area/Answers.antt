@@ -1,5 +1,5 @@
 -- `area`: a resolution with a precinct has a column. Assumes nothing.
-use Rattle.geometry.specs.Hits.{factors}
+use Rattle.geometry.proofs.Hits.{factors}
 use native.Mathlib.Omega.{arith}
 use Rattle.calls.proofs.rectangle.area.Goals as goal
 

@@ -6,7 +6,7 @@ use lib.IntN.{pos}
 use Rattle.packets.specs.Sound as spec
 use Rattle.packets.specs.Calls.{Step, step_by, step_of}
 use Rattle.packets.specs.Meaning.{all_sound_means}
-use Rattle.packets.specs.Steps.{step_refused, step_searches}
+use Rattle.packets.proofs.Steps.{step_refused, step_searches}
 use Rattle.types.specs.declared.cursor.Cursor.{Cursor}
 use Rattle.walks.specs.Walk.{answer_of}
 use Rattle.walks.specs.Taking.{marked_by}

@@ -2,7 +2,7 @@
 use Rattle.std.proofs.Common.{◌<◌, arith}
 use Rattle.geometry.specs.Line.{first, column_of}
 use Rattle.geometry.specs.Axis.{columns_of, line_of}
-use Rattle.geometry.specs.Hits.{bound_law}
+use Rattle.geometry.proofs.Hits.{bound_law}
 use Rattle.geometry.proofs.axis.Line.column.Goals as goal
 
 pub returns-then-at-columns : goal.returns-then-at-columns

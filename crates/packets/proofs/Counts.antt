@@ -19,7 +19,8 @@ use Rattle.laws.specs.Nest.{Loop, nest, nest-append}
 use Rattle.laws.specs.NestOnce.{Apart}
 use Rattle.laws.specs.NestFixed.{Blind, nest-fixed, fixed_two}
 use Rattle.geometry.specs.Hits.{Ordered}
-use Rattle.geometry.specs.Raster.{Point, point, raster, MetOnce, raster_numbers, raster-each}
+use Rattle.geometry.specs.Raster.{Point, point, raster, MetOnce}
+use Rattle.geometry.proofs.Raster.{raster_numbers, raster-each}
 use Rattle.types.specs.State.{origin}
 use Rattle.packets.specs.Tile.{Sheet, res_of, line_x, line_y, width, height, precincts}
 use Rattle.types.specs.Orders.{components_good}

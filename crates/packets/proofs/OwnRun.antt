@@ -25,19 +25,25 @@ use Rattle.packets.specs.Sound.{state_sound, followed_sound, positions_for, soun
 use Rattle.packets.specs.Calls.{Setup, accepted, step_of, open_of, listed}
 use Rattle.packets.specs.Host.{Turn, most_steps, call_turn, Hosted, host_calls, answered}
 use Rattle.packets.specs.Traces.{Call, opens, Reply, opened, World, Trace, traced, dealt_where, writes, Running, told_run}
-use Rattle.packets.specs.Inside.{Inside, inside}
+use Rattle.packets.specs.Inside.{Inside}
+use Rattle.packets.proofs.Inside.{inside}
 use Rattle.packets.specs.Meaning.{sound-means}
 use Rattle.packets.specs.Wanted.{standard_of, standard_all, same_packet, firsts}
-use Rattle.packets.specs.Steps.{fresh-sound, open_good, ended_stays}
-use Rattle.packets.specs.Turns.{mark-needed, turn_for, turn-all}
-use Rattle.packets.specs.Run.{all, Went, listing_of, calls-went, run-only, run-complete, run-listed, none_left}
-use Rattle.packets.specs.Seen.{SameFor, same_itself, Seen, seen-writes}
-use Rattle.packets.specs.Among.{lists_of, lists_long, run_trace, run-traced, run_exists, traced-state}
-use Rattle.packets.specs.Counting.{unmarked, Counts, counts-all, counts-few, counts-traced, opened_fresh}
-use Rattle.packets.specs.Admitted.{total-listed}
-use Rattle.packets.specs.WholeRun.{Passed, accepted-sound, accepted_clear, accepted_beyond, accepted-size, accepted-good, start, start-total, start_place, start-sound}
-use Rattle.packets.specs.Own.{own_positions}
-use Rattle.packets.specs.Firsts.{AllInside, dedupe-firsts, count-packets}
+use Rattle.packets.proofs.Steps.{fresh-sound, open_good, ended_stays}
+use Rattle.packets.proofs.Turns.{mark-needed, turn_for, turn-all}
+use Rattle.packets.specs.Run.{listing_of}
+use Rattle.packets.proofs.Run.{all, Went, calls-went, run-only, run-complete, run-listed, none_left}
+use Rattle.packets.specs.Seen.{SameFor}
+use Rattle.packets.proofs.Seen.{same_itself, Seen, seen-writes}
+use Rattle.packets.specs.Among.{lists_of}
+use Rattle.packets.proofs.Among.{lists_long, run_trace, run-traced, run_exists, traced-state}
+use Rattle.packets.specs.Counting.{unmarked, Counts}
+use Rattle.packets.proofs.Counting.{counts-all, counts-few, counts-traced, opened_fresh}
+use Rattle.packets.proofs.Admitted.{total-listed}
+use Rattle.packets.specs.WholeRun.{Passed}
+use Rattle.packets.proofs.WholeRun.{accepted-sound, accepted_clear, accepted_beyond, accepted-size, accepted-good, start, start-total, start_place, start-sound}
+use Rattle.packets.proofs.Own.{own_positions}
+use Rattle.packets.proofs.Firsts.{AllInside, dedupe-firsts, count-packets}
 use Rattle.types.specs.Totals.{following, total_for, total_with}
 use Rattle.types.specs.declared.state.State.{State}
 use Rattle.types.specs.declared.followed.Followed.{Followed}

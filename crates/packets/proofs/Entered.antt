@@ -11,9 +11,9 @@ use Rattle.types.specs.Entries.{entry_at}
 use Rattle.packets.specs.Tile.{res_of, precincts, index_of, entries_before}
 use Rattle.packets.specs.Table.{entry_of, entry_word, sheet_at}
 use Rattle.packets.specs.Good.{Good}
-use Rattle.packets.specs.Met.{precincts_in}
+use Rattle.packets.proofs.MetOnce.{precincts_in}
 use Rattle.packets.specs.Inside.{Inside}
-use Rattle.packets.specs.Once.{index_below}
+use Rattle.packets.proofs.Once.{index_below}
 use Rattle.packets.specs.Meaning.{Sound, sound-means, sound-good}
 use Rattle.types.specs.declared.state.State.{State}
 use Rattle.types.specs.declared.cursor.Position.{Position}

@@ -17,7 +17,7 @@ use Rattle.laws.specs.AllRuns.{has, unseen, dedupe, count}
 use Rattle.packets.specs.Tile.{Sheet, index_of}
 use Rattle.packets.specs.Good.{Good}
 use Rattle.packets.specs.Inside.{Inside}
-use Rattle.packets.specs.Once.{index_apart}
+use Rattle.packets.proofs.Once.{index_apart}
 use Rattle.packets.specs.Wanted.{same_packet, has_packet, firsts_after, firsts}
 use Rattle.types.specs.declared.cursor.Position.{Position}
 

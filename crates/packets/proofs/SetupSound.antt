@@ -1,5 +1,5 @@
 -- Setup's answer is sound: the state and the table that it writes describe the sheet that was read, and meet every test of soundness. Assumes nothing.
-use Rattle.std.specs.Prelude.{◌≡◌, List, ℕ, ◌-◌, ◌^◌, ◌≤◌, ◌<◌, get_or, leb}
+use Rattle.std.specs.Prelude.{◌≡◌, List, ℕ, ◌^◌, ◌≤◌, ◌<◌, get_or, leb}
 use Rattle.std.proofs.Math.Path.{refl, ap}
 use Rattle.std.proofs.Common.{sym, ◌∙◌, arith}
 use Rattle.std.proofs.Math.Bool.{true}
@@ -10,7 +10,8 @@ use Rattle.laws.specs.Pointwise.{all_true}
 use Rattle.words.specs.Words.{over}
 use Rattle.words.specs.Laws.{Bytes, word_small, over-length}
 use Rattle.geometry.specs.Line.{count}
-use Rattle.geometry.specs.Hits.{Ordered, count-small}
+use Rattle.geometry.specs.Hits.{Ordered}
+use Rattle.geometry.proofs.Hits.{count-small}
 use Rattle.types.specs.Ranges.{within}
 use Rattle.packets.specs.Sheet.{wd, fields_of}
 use Rattle.packets.specs.Tile.{Sheet, dx_of, dy_of, res_of, level_of, line_x, line_y, width, height, reported, needed, entries_before, table_bytes}
@@ -19,7 +20,7 @@ use Rattle.packets.specs.Table.{entry, table_of, entry_word, sheet_at, sheet_in}
 use Rattle.packets.specs.Sound.{tile_good, components_sound, progressions_sound, entry_sound, table_sound, reports_sound, sheet_sound, state_sound}
 use Rattle.packets.specs.Readback.{table-length, table_word}
 use Rattle.packets.specs.Reading.{Read}
-use Rattle.packets.specs.Fields.{tile-good, component-range, exponent_range_lem, components-sound, progressions-sound}
+use Rattle.packets.proofs.Fields.{tile-good, component-range, exponent_range_lem, components-sound, progressions-sound}
 use Rattle.packets.specs.Alike.{Alike, max_prec-same, max_res-same, dx_min-same, dy_min-same, grid_same}
 use Rattle.types.specs.declared.state.State.{State}
 

@@ -23,7 +23,8 @@ use Rattle.packets.specs.Table.{entry, table_of, entry_word, sheet_at, sheet_in}
 use Rattle.packets.specs.Alike.{Alike, max_prec-same, max_res-same, dx_min-same, dy_min-same, grid_same}
 use Rattle.packets.specs.Meaning.{Sound, grid_means}
 use Rattle.packets.specs.Written.{tile_row, component_row, written, Row}
-use Rattle.packets.specs.Rebuilt.{Formed, tile_says, component_says, resolution_says, progression_says}
+use Rattle.packets.specs.Rebuilt.{Formed}
+use Rattle.packets.proofs.Rebuilt.{tile_says, component_says, resolution_says, progression_says}
 use Rattle.packets.specs.Rows.{progression_back}
 use Rattle.types.specs.declared.state.State.{State}
 

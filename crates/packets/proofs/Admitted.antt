@@ -34,11 +34,13 @@ use Rattle.packets.specs.Sound.{state_sound, positions_for}
 use Rattle.packets.specs.Totals.{ranges_over, layers_by, layers_admitted, total}
 use Rattle.packets.specs.Calls.{listed}
 use Rattle.packets.specs.Good.{Good}
-use Rattle.packets.specs.Inside.{Inside, InRange, in_positions, in_range_lem, inside}
-use Rattle.packets.specs.Once.{index_apart}
-use Rattle.packets.specs.WholeTile.{Packet, packet_of, position_of, packets_of_resolution, below, to, span_once, of, resolution_once, has-packet}
+use Rattle.packets.specs.Inside.{Inside, InRange, in_positions, in_range_lem}
+use Rattle.packets.proofs.Inside.{inside}
+use Rattle.packets.proofs.Once.{index_apart}
+use Rattle.packets.specs.WholeTile.{Packet, packet_of, position_of, packets_of_resolution}
+use Rattle.packets.proofs.WholeTile.{below, to, span_once, of, resolution_once, has-packet}
 use Rattle.packets.specs.Meaning.{sound-means, sound-good}
-use Rattle.packets.specs.Turns.{mark-needed}
+use Rattle.packets.proofs.Turns.{mark-needed}
 use Rattle.types.specs.declared.state.Progression.{Progression}
 use Rattle.types.specs.declared.state.State.{State}
 use Rattle.types.specs.declared.cursor.Position.{Position}

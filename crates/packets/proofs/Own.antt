@@ -26,12 +26,13 @@ use Rattle.packets.specs.Sound.{positions_for}
 use Rattle.packets.specs.Calls.{Setup, accepted}
 use Rattle.packets.specs.Good.{Good}
 use Rattle.packets.specs.Alike.{Alike, max_prec-same}
-use Rattle.packets.specs.Counts.{standard_positions}
+use Rattle.packets.proofs.Counts.{standard_positions}
 use Rattle.packets.specs.Inside.{positions_nest, positions_none, has-good}
 use Rattle.packets.specs.Reading.{read-good}
-use Rattle.packets.specs.Fields.{dx_is, dy_is, res_is}
-use Rattle.packets.specs.SetupSound.{setup-alike}
-use Rattle.packets.specs.WholeRun.{Passed, accepted-sound, accepted-good}
+use Rattle.packets.proofs.Fields.{dx_is, dy_is, res_is}
+use Rattle.packets.proofs.SetupSound.{setup-alike}
+use Rattle.packets.specs.WholeRun.{Passed}
+use Rattle.packets.proofs.WholeRun.{accepted-sound, accepted-good}
 use Rattle.packets.specs.Meaning.{Sound, sound-means}
 use Rattle.packets.specs.Wanted.{sheet_of, standard_of}
 use Rattle.types.specs.declared.state.Progression.{Progression}

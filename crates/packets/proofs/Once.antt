@@ -17,9 +17,10 @@ use Rattle.types.specs.declared.order.Range.{Range}
 use Rattle.packets.specs.Positions.{loops_of, has_positions, positions_in}
 use Rattle.packets.specs.Good.{Good}
 use Rattle.packets.specs.Loops.{loops_apart}
-use Rattle.packets.specs.Met.{met_once}
+use Rattle.packets.proofs.MetOnce.{met_once}
 use Rattle.packets.specs.Same.{same_numbers}
-use Rattle.packets.specs.Inside.{Inside, positions_nest, positions_none, in_range_lem, in_met, in_still, inside}
+use Rattle.packets.specs.Inside.{Inside, positions_nest, positions_none, in_range_lem, in_met, in_still}
+use Rattle.packets.proofs.Inside.{inside}
 use Rattle.types.specs.declared.cursor.Position.{Position}
 
 module _ (s : Sheet) (g : Range) where
