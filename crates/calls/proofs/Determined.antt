@@ -5,7 +5,7 @@ use contract.Lifetimes.{Lfts}
 use denote.Triple.Clauses.{AtExit}
 use Rattle.laws.specs.Determined.{determined_by, OneAnswer}
 use Rattle.types.specs.Answers.{of_opened, of_located}
-use Rattle.packets.specs.Apart.{verdict-apart, setup-apart, joined-apart, opened_apart, stepped-apart, located_apart}
+use Rattle.packets.specs.Apart.{setup-apart, started-apart, run-apart, joined-apart, opened_apart, stepped-apart, located_apart}
 use Rattle.calls.proofs.setup.setup_for.Kinds as setup_for_kinds
 use Rattle.calls.proofs.setup.setup_for.Reads as setup-for
 use Rattle.calls.proofs.setup.setup.Kinds as setup_kinds
@@ -22,7 +22,7 @@ use Rattle.calls.proofs.whole.whole_run.Kinds as whole_run_kinds
 use Rattle.calls.proofs.whole.whole_run.Reads as whole_run
 
 pub setup-determined : OneAnswer setup_kinds.ps setup_kinds.r setup.Post
-setup-determined κs a r s e f p q = λ i. record { verdict = verdict-apart r.verdict s.verdict (p.0 ∙ sym q.0) i; followed = (p.1.0 ∙ sym q.1.0) i }
+setup-determined κs a r s e f p q = started-apart r s (λ i. record { number = (p.0 ∙ sym q.0) i; followed = (p.1.0 ∙ sym q.1.0) i })
 
 -- and what stands in the table and in the marks at exit
 pub setup_leaves : (κs : Lfts 3) (a : Dens κs setup_kinds.ps) (r s : (res_t setup_kinds.r κs).Denot) (e f : AtExit (ended_of 3 setup_kinds.ps setup_kinds.r) κs)
@@ -57,9 +57,9 @@ pub step_leaves : (κs : Lfts 2) (a : Dens κs step_kinds.ps) (r s : (res_t step
 step_leaves κs a r s e f p q = p.1.1 ∙ sym q.1.1
 
 pub whole_run_determined : OneAnswer whole_run_kinds.ps whole_run_kinds.r whole_run.Post
-whole_run_determined κs a r s e f p q = p.0 ∙ sym q.0
+whole_run_determined κs a r s e f p q = run-apart r s (p.0 ∙ sym q.0)
 
 pub whole_run_leaves : (κs : Lfts 4) (a : Dens κs whole_run_kinds.ps) (r s : (res_t whole_run_kinds.r κs).Denot) (e f : AtExit (ended_of 4 whole_run_kinds.ps whole_run_kinds.r) κs)
     → whole_run.Post κs a r e → whole_run.Post κs a s f
     → (e.1.0.now ≡ f.1.0.now) × (e.1.1.0.now ≡ f.1.1.0.now) × (e.1.1.1.0.now ≡ f.1.1.1.0.now)
-whole_run_leaves κs a r s e f p q = (p.1.0 ∙ sym q.1.0, p.1.1.0 ∙ sym q.1.1.0, p.1.1.1 ∙ sym q.1.1.1)
+whole_run_leaves κs a r s e f p q = (p.1.0 ∙ sym q.1.0, p.1.1.0 ∙ sym q.1.1.0, p.1.1.1.0 ∙ sym q.1.1.1.0)

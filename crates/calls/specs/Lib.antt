@@ -1,6 +1,4 @@
 -- What the calls' parts are to do, in terms of the numbers that they are given.
-pub mod Reports
-pub mod Refused
 pub mod Room
 pub mod Start
 pub mod Rectangle

@@ -1,26 +1,26 @@
 -- The whole run: a refused setup ends it; an accepted one leaves a sound state, clear marks and room, so that all the runs list what 01 says. Assumes nothing.
-use Rattle.std.specs.Prelude.{◌≡◌, refl, List, ℕ, ◌-◌, ◌*◌, ◌≤◌, ◌<◌, length, get_or, leb, eqb, ℤ}
-use Rattle.std.proofs.Common.{sym, ◌∙◌, subst, arith, SFits, of_z}
+use Rattle.std.specs.Prelude.{◌≡◌, refl, List, ℕ, ◌*◌, ◌≤◌, ◌<◌, length, get_or, leb, eqb, ℤ, Ok, Err}
+use Rattle.std.proofs.Common.{sym, ◌∙◌, subst, arith}
 use Rattle.std.proofs.Math.Path.{ap}
 use Rattle.std.proofs.Math.IntN.{pos}
-use Rattle.std.specs.Int.{w32}
 use borrow.Author.Tests.{leb-true, eqb-true, eqb-false, eq-eqb}
 use Rattle.laws.specs.Marks.{zero_free}
 use Rattle.laws.specs.Cases.{split}
 use Rattle.words.specs.Laws.{Bytes}
 use Rattle.packets.specs.Tile.{reported, needed, index_of}
 use Rattle.packets.specs.Table.{sheet_in}
-use Rattle.types.specs.Answers.{SetUpSaid, number_of, of_set_up}
+use Rattle.types.specs.Answers.{number_of, of_set_up}
+use Rattle.packets.specs.Apart.{refusal-negative}
 use Rattle.packets.specs.Calls.{Setup, setup_verdict, accepted, turned_away, Run, run_verdict, ran_over, whole_run_of}
 use Rattle.packets.specs.Meaning.{Sound, sound-means}
 use Rattle.packets.specs.WholeRun.{Passed}
 use Rattle.packets.proofs.WholeRun.{setup-passed, run-refuses, accepted-sound, accepted_clear}
-use Rattle.types.specs.declared.answer.SetUp.{SetUp}
-use Rattle.types.specs.Signed.{negative}
-use Rattle.calls.specs.Room.{room_verdict, setup_in}
+use Rattle.types.specs.declared.state.State.{State}
+use Rattle.types.specs.declared.answer.Refusal.{Refusal}
+use Rattle.calls.specs.Room.{room_verdict, setup_in, SetUpLeft, done_is}
 use Rattle.calls.specs.declared.output.Output.TheVariants.{Records}
-use Rattle.walks.specs.Running.{Total, total_of}
-use Rattle.walks.specs.RunAll.{from_on, all-listed}
+use Rattle.walks.specs.Running.{Total, run_at, total_of}
+use Rattle.walks.specs.RunAll.{from_on, all-listed, count-few}
 
 module _ (sheet table marks output : List ℕ) where
   abbrev whole : Run
@@ -48,85 +48,77 @@ module _ (sheet table marks output : List ℕ) where
   unfolding setup_in room_verdict run_verdict
   setting-refuses n = split (eqb verdict 0) (λ t. absurd (n (eqb-true _ _ t))) (λ t. rw t)
 
-  -- what setup answered and left, and its number
-  pub record SetUpLeft (r : SetUp) (t m : List ℕ) (z : ℤ) : Type 0 where
-    pub said : of_set_up r ≡ setting.said
-    pub table_is : t ≡ setting.table
-    pub marks_is : m ≡ setting.marks
-    pub number_is : z ≡ number_of r.verdict
-
-  module _ {r : SetUp} {t m : List ℕ} {z : ℤ} (h : SetUpLeft r t m z) where
-    abbrev done : Setup
-    done = record { said = of_set_up r; table = t; marks = m }
-
-    done_is : done ≡ setting
-    done_is = λ i. record { said = h.said i; table = h.table_is i; marks = h.marks_is i }
-
-    number-said : z ≡ setting.said.number
-    number-said = h.number_is ∙ ap (λ (s : SetUpSaid). s.number) h.said
-
-    -- REFUSED: everything as it was
-    pub run_refused : (of_z w32 z ≡ 0 → ⊥) → Left z t m output
-    run_refused n =
-        left (record { number = z; table = t; marks = m; output = output })
-        ((λ i. record { number = h.number_is i; table = t; marks = m; output = output })
-        ∙ ap after (done_is ∙ setting-refuses not-passed)
-        ∙ sym (run-refuses sheet table marks output not-passed))
+  -- REFUSED: everything as it was
+  module _ {e : Refusal} {t m : List ℕ} (h : SetUpLeft sheet table marks (Records (length output)) (Err e) t m) where
+    pub run_refused : Left (number_of e) t m output
+    run_refused =
+        left (record { number = number_of e; table = t; marks = m; output = output })
+        (ap after (done_is h ∙ setting-refuses not-passed) ∙ sym (run-refuses sheet table marks output not-passed))
       where
         after : Setup → Run
         after u = record { number = u.said.number; table = u.table; marks = u.marks; output = output }
 
         not-passed : verdict ≡ 0 → ⊥
-        not-passed v = n (ap (of_z w32) (number-said ∙ ap (λ (u : Setup). u.said.number) (setting-passes v)))
+        not-passed v =
+            let n = refusal-negative e in
+            let z = ap (λ (u : Setup). u.said.number) (done_is h ∙ setting-passes v) in
+            cc
 
-    -- ACCEPTED
-    pub run-passed : SFits w32 z → of_z w32 z ≡ 0 → verdict ≡ 0
-    run-passed f k =
+  -- ACCEPTED
+  module _ {st : State} {t m : List ℕ} (h : SetUpLeft sheet table marks (Records (length output)) (Ok st) t m) where
+    pub run-passed : verdict ≡ 0
+    run-passed =
         split (eqb verdict 0)
         (λ e. eqb-true _ _ e)
-        (λ e. absurd (negative (verdict - 1) z (number-said ∙ ap (λ (u : Setup). u.said.number) (setting-refuses (eqb-false _ _ e))) f k))
+        (λ e. let none = ap (λ (u : Setup). u.said.number) (done_is h ∙ setting-refuses (eqb-false _ _ e)) in cc)
 
-    module _ (bytes : Bytes sheet) (v : verdict ≡ 0) where
-      set-up : setup_verdict sheet table marks ≡ 0
-      unfolding run_verdict
-      set-up = split (eqb (setup_verdict sheet table marks) 0) (λ e. eqb-true _ _ e) (λ e. absurd (eqb-false _ _ e (rw e at v)))
+    set-up : setup_verdict sheet table marks ≡ 0
+    unfolding run_verdict
+    set-up = split (eqb (setup_verdict sheet table marks) 0) (λ e. eqb-true _ _ e) (λ e. absurd (eqb-false _ _ e (rw e at run-passed)))
 
+    done-accepted : ◌≡◌ {A = Setup} (record { said = of_set_up (Ok st); table = t; marks = m }) (accepted sheet table marks)
+    done-accepted = done_is h ∙ setting-passes run-passed
+
+    room : 16 * needed (reported (sheet_in sheet)) ≤ length output
+    unfolding run_verdict
+    room =
+        split (leb (16 * needed (reported (sheet_in sheet))) (length output))
+        (λ e. leb-true _ _ e)
+        (λ e. absurd (let n : ⊥ = omega (arith, rw (eq-eqb _ _ set-up, e) at run-passed) in n))
+
+    done_room : 16 * needed st ≤ length output
+    done_room = subst (λ (u : Setup). 16 * needed u.said.state ≤ length output) (sym done-accepted) room
+
+    module _ (bytes : Bytes sheet) where
       passed : Passed sheet table marks
       passed = setup-passed sheet table marks set-up
 
-      done-accepted : done ≡ accepted sheet table marks
-      done-accepted = done_is ∙ setting-passes v
-
       -- as setup left it: sound, its marks clear, and with room for its records
-      pub done-sound : Sound r.state t m
+      pub done-sound : Sound st t m
       done-sound =
           subst (λ (u : Setup). Sound u.said.state u.table u.marks) (sym done-accepted)
           ((sound-means _ _ _).0 (accepted-sound sheet table marks bytes passed))
 
-      done_clear : (i : ℕ) → i < needed r.state → get_or m i 0 ≡ 0
+      done_clear : (i : ℕ) → i < needed st → get_or m i 0 ≡ 0
       done_clear =
-          subst (λ (u : Setup). (i : ℕ) → i < needed u.said.state → get_or u.marks i 0 ≡ 0) (sym done-accepted) (accepted_clear sheet table marks bytes passed)
+          subst (λ (u : Setup). (i : ℕ) → i < needed u.said.state → get_or u.marks i 0 ≡ 0) (sym done-accepted)
+          (accepted_clear sheet table marks bytes passed)
 
-      room : 16 * needed (reported (sheet_in sheet)) ≤ length output
-      unfolding run_verdict
-      room =
-          split (leb (16 * needed (reported (sheet_in sheet))) (length output))
-          (λ e. leb-true _ _ e)
-          (λ e. absurd (let n : ⊥ = omega (arith, rw (eq-eqb _ _ set-up, e) at v) in n))
-
-      done_room : 16 * needed r.state ≤ length output
-      done_room = subst (λ (u : Setup). 16 * needed u.said.state ≤ length output) (sym done-accepted) room
+      -- all the runs list few packets
+      pub run-few : {n : ℕ} {mx ox : List ℕ}
+          → run_at n mx ox ≡ total_of (index_of st) (run_at 0 m output) (from_on st t 0) → n ≤ 65536
+      run-few ran = let e = ap (λ (a : Total). a.count) ran in omega (arith, e, count-few st t m done-sound output)
 
       -- what all the runs leave is what the whole run is to leave
       pub run-left : {n : ℕ} {mx ox : List ℕ}
-          → ◌≡◌ {A = Total} (record { count = n; marks = mx; output = ox }) (total_of (index_of r.state) m output 0 (from_on r.state t 0))
+          → run_at n mx ox ≡ total_of (index_of st) (run_at 0 m output) (from_on st t 0)
           → Left (pos n) t mx ox
       unfolding ran_over whole_run_of
       run-left {n} {mx} {ox} ran =
-          left (total (record { count = n; marks = mx; output = ox }))
-          (ap total (ran ∙ all-listed r.state t m output done-sound (λ i h. zero_free 0 m i (done_clear i h)) done_room)
+          left (total (run_at n mx ox))
+          (ap total (ran ∙ all-listed st t m output done-sound (λ i h. zero_free 0 m i (done_clear i h)) done_room)
           ∙ ap (λ (u : Setup). ran_over u output) done-accepted
-          ∙ rw (eq-eqb _ _ v) refl)
+          ∙ rw (eq-eqb _ _ run-passed) refl)
         where
           total : Total → Run
           total a = record { number = pos a.count; table = t; marks = a.marks; output = a.output }

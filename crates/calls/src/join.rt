@@ -4,9 +4,9 @@ ghost use Rattle.types.specs.Answers.{of_joined};
 ghost use Rattle.packets.specs.Calls.{join_of};
 
 use crate::marks::clear_for;
+use soundness::marks_needed;
 use soundness::totals::total;
-use soundness::{Needs, marks_needed};
-use types::answer::{AfterJoin, Joined};
+use types::answer::{AfterJoin, NotJoined};
 use types::cursor::Cursor;
 use types::followed::Followed;
 
@@ -17,21 +17,23 @@ pub fn join(f: Followed, table: &[u8], marks: &mut [u8], viewer: u32) -> AfterJo
     ensures cleared { marks.new ≡ (join_of f table.now marks.old viewer).marks }
 {
     match marks_needed(f, table, marks, viewer) {
-        Needs::Marks(n) => {
+        Some(n) => {
             if viewer < Cursor::VIEWERS {
                 clear_for(marks, n as usize, viewer);
-                let said = Joined::Done;
-                let st = f.state;
-                let followed = f.with_total(viewer, total(st, table));
-                AfterJoin { said, followed }
+                AfterJoin {
+                    said: Ok(()),
+                    followed: f.with_total(viewer, total(f.state, table)),
+                }
             } else {
-                let said = Joined::NoViewer;
-                AfterJoin { said, followed: f }
+                AfterJoin {
+                    said: Err(NotJoined::NoViewer),
+                    followed: f,
+                }
             }
         }
-        Needs::Unsound => {
-            let said = Joined::Unsound;
-            AfterJoin { said, followed: f }
-        }
+        None => AfterJoin {
+            said: Err(NotJoined::Unsound),
+            followed: f,
+        },
     }
 }

@@ -6,7 +6,6 @@ mod marks;
 pub mod open;
 pub mod output;
 pub mod rectangle;
-mod reports;
 pub mod setup;
 pub mod step;
 mod table;

@@ -10,11 +10,7 @@ pub(crate) fn clear(marks: &mut [u8], n: usize)
     requires { n ≤ length marks.old }
     ensures { marks.new ≡ over (replicate n 0) marks.old }
 {
-    let mut i: usize = 0;
-    while i < n {
-        marks[i] = 0;
-        i += 1;
-    }
+    marks[..n].fill(0);
 }
 
 // Clears a viewer's bit in them.
@@ -22,9 +18,7 @@ pub(crate) fn clear_for(marks: &mut [u8], n: usize, viewer: u32)
     requires { n ≤ length marks.old }
     ensures { marks.new ≡ cleared_to viewer n marks.old }
 {
-    let mut i: usize = 0;
-    while i < n {
+    for i in 0..n {
         mark::clear(marks, i, viewer);
-        i += 1;
     }
 }

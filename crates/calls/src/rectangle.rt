@@ -7,7 +7,7 @@ ghost use Rattle.calls.specs.Rectangle.{area_of};
 use geometry::tile::Area;
 use soundness::sheet_sound;
 use soundness::sides::Sides;
-use types::answer::Located;
+use types::answer::NotLocated;
 use types::state::State;
 
 // The rectangle of one of the precincts of a resolution: across by its column, down by its row.
@@ -26,20 +26,25 @@ fn area(sides: Sides, precno: u32) -> Area
 }
 
 // The rectangle of a precinct on its resolution, cut to the resolution's bounds.
-pub fn rectangle(st: State, table: &[u8], compno: u32, resno: u32, precno: u32) -> Located
+pub fn rectangle(
+    st: State,
+    table: &[u8],
+    compno: u32,
+    resno: u32,
+    precno: u32,
+) -> Result<Area, NotLocated>
     ensures { of_located result ≡ rectangle_of st table.now compno resno precno }
 {
     if !sheet_sound(st, table) {
-        return Located::Unsound;
+        return Err(NotLocated::Unsound);
     }
     if compno < st.components {
-        let resolutions = st.resolutions;
-        if resno < resolutions[compno as usize] {
+        if resno < st.comps[compno as usize].resolutions {
             let sides = Sides::of(st, table, compno, resno);
             if precno < sides.entry.width * sides.entry.height {
-                return Located::Rectangle(area(sides, precno));
+                return Ok(area(sides, precno));
             }
         }
     }
-    Located::NoSuch
+    Err(NotLocated::NoSuch)
 }

@@ -8,7 +8,6 @@ use types::answer::{AfterStep, Stepped};
 use types::cursor::{Cursor, Place};
 use types::followed::Followed;
 use walks::take::take;
-use walks::walk::Found;
 
 // The next packet after a cursor, marked, with the cursor moved to it and one less to come; or the ended cursor; or -9, and nothing changes.
 pub fn step(f: Followed, table: &[u8], marks: &mut [u8], cursor: Cursor) -> AfterStep
@@ -24,7 +23,7 @@ pub fn step(f: Followed, table: &[u8], marks: &mut [u8], cursor: Cursor) -> Afte
     let viewer = cursor.viewer;
     let progression = cursor.progression;
     match take(st, table, marks, cursor) {
-        Found::At(p) => {
+        Some(p) => {
             let moved = Cursor {
                 viewer,
                 progression,
@@ -34,7 +33,7 @@ pub fn step(f: Followed, table: &[u8], marks: &mut [u8], cursor: Cursor) -> Afte
             let followed = f.one_less(viewer);
             AfterStep { said, followed }
         }
-        Found::Nothing => {
+        None => {
             let said = Stepped::Ended(Cursor::ended(viewer, progression));
             AfterStep { said, followed: f }
         }

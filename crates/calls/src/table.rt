@@ -3,23 +3,24 @@ ghost use Rattle.std.specs.Prelude.{◌≡◌, ◌*◌, ◌≤◌, length, take}
 ghost use Rattle.words.specs.Words.{words_bytes, over};
 
 use types::table::Entry;
+use words::{Four, put_four};
 
 // Lays the words of n entries over a lent table that has room for them.
 pub(crate) fn write(words: &[u32], n: usize, table: &mut [u8])
     requires { (4 * n ≤ length words.now) × (16 * n ≤ length table.old) × (n ≤ 528) }
     ensures { table.new ≡ over (words_bytes (take (4 * n) words.now)) table.old }
 {
-    let mut i: usize = 0;
-    while i < n {
+    for i in 0..n {
         let w = 4 * i;
-        words::put_four(
+        put_four(
             table,
             Entry::BYTES * i,
-            words[w],
-            words[w + 1],
-            words[w + 2],
-            words[w + 3],
+            Four {
+                a: words[w],
+                b: words[w + 1],
+                c: words[w + 2],
+                d: words[w + 3],
+            },
         );
-        i += 1;
     }
 }

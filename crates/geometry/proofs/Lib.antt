@@ -5,3 +5,4 @@ pub mod Raster
 pub mod Cells
 pub mod Determined
 pub mod Meeting
+pub mod Saying

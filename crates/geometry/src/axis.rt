@@ -5,7 +5,7 @@ ghost use Rattle.geometry.specs.Line.{bound_of, column_of, meets_at};
 ghost use Rattle.geometry.specs.Fitted.{fitted};
 ghost use Rattle.geometry.specs.Axis.{axis_of, resolution_of, columns_of, cell_of, line_of, bounds_of};
 
-use crate::{ceiling, math, power};
+use crate::{ceiling, power};
 
 // A component: its bounds, and its step, XRsiz or YRsiz.
 #[derive(Clone, Copy)]
@@ -44,18 +44,21 @@ impl Axis {
     pub fn of(t0: u32, t1: u32, d: u32) -> Self
         ensures { result ≡ axis_of t0 t1 d }
     {
-        let c0 = ceiling::divided(t0, d);
-        let c1 = ceiling::divided(t1, d);
-        Axis { c0, c1, d }
+        Axis {
+            c0: ceiling::divided(t0, d),
+            c1: ceiling::divided(t1, d),
+            d,
+        }
     }
 
     // Its resolution at this level.
     pub fn at(self, level: u32) -> Resolution
         ensures { result ≡ resolution_of self level }
     {
-        let r0 = ceiling::shifted(self.c0, level);
-        let r1 = ceiling::shifted(self.c1, level);
-        Resolution { r0, r1 }
+        Resolution {
+            r0: ceiling::shifted(self.c0, level),
+            r1: ceiling::shifted(self.c1, level),
+        }
     }
 }
 
@@ -85,27 +88,18 @@ impl Resolution {
         }
         let cell = columns.first + i;
         Resolution {
-            r0: math::uint_max(self.r0, power::raised(cell, pd)),
+            r0: self.r0.max(power::raised(cell, pd)),
             r1: power::least(self.r1, power::raised(cell + 1, pd)),
         }
     }
 }
 
 // From a precinct to the next in points of the grid; 0 where that does not fit 32 bits.
+// kept as a number, not an Option: 0 has just the multiples among the points of a step that does not fit (theorem `fitted_multiple`), so it is used as it is.
 pub fn step(d: u32, level: u32, pd: u32) -> u32
     ensures { result ≡ fitted (d * 2 ^ (pd + level)) }
 {
-    power::raised(d, math::uint_adds(pd, level))
-}
-
-// Point x is a multiple of the step. One that does not fit has no multiple among the points but 0.
-fn multiple(x: u32, step: u32) -> bool
-    ensures { result ≡ (x % step == 0) }
-{
-    if step == 0 {
-        return x == 0;
-    }
-    x % step == 0
+    power::raised(d, pd.saturating_add(level))
 }
 
 impl Line {
@@ -129,23 +123,14 @@ impl Line {
         ceiling::shifted(ceiling::divided(x, self.d), self.level)
     }
 
-    // A precinct is met at x: a point of the tile where one starts, or where the tile does, inside one.
+    // A precinct is met at x: a point of the tile where one starts, or where the tile does, inside one. A step of 0 has no multiple but 0.
     pub fn meets(self, x: u32) -> bool
         ensures { result ≡ meets_at (line_of self) x }
     {
-        if x < self.t0 {
-            return false;
-        }
-        if self.t1 <= x {
-            return false;
-        }
-        if multiple(x, step(self.d, self.level, self.pd)) {
-            return true;
-        }
-        if x == self.t0 {
-            return power::uneven(self.sample(x), self.pd);
-        }
-        false
+        self.t0 <= x
+            && x < self.t1
+            && (x.is_multiple_of(step(self.d, self.level, self.pd))
+                || x == self.t0 && power::uneven(self.sample(x), self.pd))
     }
 
     // The column, or row, of the precinct at point x, counted from the tile's first.
@@ -153,11 +138,6 @@ impl Line {
         ensures { result ≡ column_of (line_of self) x }
     {
         let columns = self.resolution().columns(self.pd);
-        let at = power::floored(self.sample(x), self.pd);
-        if at < columns.first {
-            0
-        } else {
-            at - columns.first
-        }
+        power::floored(self.sample(x), self.pd).saturating_sub(columns.first)
     }
 }

@@ -2,17 +2,11 @@
 ghost use Rattle.std.specs.Prelude.{◌≡◌, ◌^◌};
 ghost use Rattle.laws.specs.Ceiling.{ceil_div};
 
-use crate::math;
-
 // a / b rounded up; 0 for b = 0.
 pub fn divided(a: u32, b: u32) -> u32
     ensures { result ≡ ceil_div a b }
 {
-    if b == 0 {
-        return 0;
-    }
-    let q = a / b;
-    if a % b == 0 { q } else { q + 1 }
+    if b == 0 { 0 } else { a.div_ceil(b) }
 }
 
 // a / 2^by rounded up, in 32 bits: a shift, and a test of the bits that it drops, without which a is the quotient shifted back.
@@ -23,6 +17,6 @@ pub fn shifted(a: u32, by: u32) -> u32
         let q = a >> by;
         if q << by < a { q + 1 } else { q }
     } else {
-        math::uint_min(a, 1)
+        a.min(1)
     }
 }

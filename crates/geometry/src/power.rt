@@ -2,33 +2,28 @@
 ghost use Rattle.std.specs.Prelude.{◌≡◌, ◌*◌, ◌/◌, ◌%◌, ◌^◌, not, ◌==◌};
 ghost use Rattle.geometry.specs.Fitted.{fitted, least_of};
 
-use crate::math;
-
 // a / 2^by rounded down.
 pub(crate) fn floored(a: u32, by: u32) -> u32
     ensures { result ≡ a / 2 ^ by }
 {
-    if by < 32 { a >> by } else { 0 }
+    a.checked_shr(by).unwrap_or(0)
 }
 
-// a · 2^by; 0 where that does not fit 32 bits: then the shift back does not give a.
+// a · 2^by; 0 where that does not fit 32 bits: then the shift back does not give a. A number, as `axis::step` is, which says why.
 pub(crate) fn raised(a: u32, by: u32) -> u32
     ensures { result ≡ fitted (a * 2 ^ by) }
 {
-    if by < 32 {
-        let high = a << by;
-        if high >> by == a {
-            return high;
-        }
-    }
-    0
+    let Some(high) = a.checked_shl(by) else {
+        return 0;
+    };
+    if high >> by == a { high } else { 0 }
 }
 
-// The smaller of a number and one that is 0 where it does not fit: then it is larger than every number.
+// The smaller of a number and one of `raised` or `axis::step`, which is 0 where it does not fit: then it is larger than every number.
 pub fn least(a: u32, n: u32) -> u32
     ensures { result ≡ least_of a n }
 {
-    if n == 0 { a } else { math::uint_min(a, n) }
+    if n == 0 { a } else { a.min(n) }
 }
 
 // The division leaves something: a is no multiple of 2^by.

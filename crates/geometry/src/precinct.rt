@@ -5,30 +5,24 @@ ghost use Rattle.geometry.specs.Precinct.{component_bound_of, resolution_bound_o
 
 use crate::axis::Resolution;
 use crate::math;
-use crate::math::Word;
 
 // A bound of the tile-component: the tile's bound t, divided by the component's step d, rounded up.
-pub fn component_bound(t: u32, d: u32) -> Word
+pub fn component_bound(t: u32, d: u32) -> Option<u32>
     ensures { of_word result ≡ component_bound_of t d }
 {
     math::uint_ceildiv(t, d)
 }
 
 // A bound of a resolution: the component's bound c, divided by 2^level, rounded up.
-pub fn resolution_bound(c: u32, level: u32) -> Word
+pub fn resolution_bound(c: u32, level: u32) -> Option<u32>
     ensures { of_word result ≡ resolution_bound_of c level }
 {
     math::uint_ceildivpow2(c, level)
 }
 
 // The number of precincts of 2^pd samples on an axis of a resolution that goes from r0 to r1.
-pub fn precincts(r0: u32, r1: u32, pd: u32) -> Word
+pub fn precincts(r0: u32, r1: u32, pd: u32) -> Option<u32>
     ensures { of_word result ≡ precincts_of r0 r1 pd }
 {
-    if pd < 32 {
-        let columns = Resolution { r0, r1 }.columns(pd);
-        Word::Value(columns.count)
-    } else {
-        Word::Refused
-    }
+    (pd < 32).then_some(Resolution { r0, r1 }.columns(pd).count)
 }

@@ -32,18 +32,11 @@ pub struct Side {
     pub end: u32,
 }
 
-#[derive(Clone, Copy)]
-pub enum Tile {
-    Bounds(Area),
-    // -10
-    Outside,
-}
-
 // Where column or row p of the grid starts; sum and product wrap.
 fn start_of(origin: u32, p: u32, size: u32) -> u32
     ensures { result ≡ start_of origin p size }
 {
-    std::num::wrapping_add_u32(origin, math::wrapping_mul(p, size))
+    origin.wrapping_add(math::wrapping_mul(p, size))
 }
 
 fn side_of(i0: u32, i1: u32, origin: u32, p: u32, size: u32) -> Side
@@ -51,25 +44,25 @@ fn side_of(i0: u32, i1: u32, origin: u32, p: u32, size: u32) -> Side
 {
     let start = start_of(origin, p, size);
     Side {
-        start: math::uint_max(start, i0),
-        end: math::uint_min(i1, math::uint_adds(start, size)),
+        start: start.max(i0),
+        end: i1.min(start.saturating_add(size)),
     }
 }
 
-// The part of the image that tile number tileno covers.
-pub fn tile_bounds(image: Area, grid: Grid, tileno: u32) -> Tile
+// The part of the image that tile number tileno covers; None, the refusal -10, for a number outside the grid.
+pub fn tile_bounds(image: Area, grid: Grid, tileno: u32) -> Option<Area>
     ensures { of_tile result ≡ tile_bounds_of image grid tileno }
 {
     if tileno < math::wrapping_mul(grid.tw, grid.th) {
         let x = side_of(image.x0, image.x1, grid.tx0, tileno % grid.tw, grid.tdx);
         let y = side_of(image.y0, image.y1, grid.ty0, tileno / grid.tw, grid.tdy);
-        Tile::Bounds(Area {
+        Some(Area {
             x0: x.start,
             y0: y.start,
             x1: x.end,
             y1: y.end,
         })
     } else {
-        Tile::Outside
+        None
     }
 }

@@ -1,4 +1,5 @@
 // The exports for C (include/bonxigarth.h): plain numbers and byte buffers.
+// kept as numbers, the refusals and a tile's twelve words, and the clauses of each export written out: C calls them so, and a reader of the header reads them here
 #![tactic(auto)]
 
 ghost use Rattle.std.specs.Prelude.{◌≡◌};
@@ -8,8 +9,8 @@ ghost use Rattle.host.specs.Setup.{setup_for_c};
 
 use calls::output::Output;
 use calls::setup::setup_for;
-use geometry::tile::{Area, Grid, Tile};
-use words::put_four;
+use geometry::tile::{Area, Grid};
+use words::{Four, put_four};
 
 // Sets a sheet up and lists its packets; answers how many there are, or -1 to -8, and nothing changes.
 #[unsafe(no_mangle)]
@@ -24,7 +25,10 @@ pub extern "C" fn bonxigarth_whole_run(
     ensures marked { marks.new ≡ (whole_run_of sheet.now table.old marks.old output.old).marks }
     ensures listed { output.new ≡ (whole_run_of sheet.now table.old marks.old output.old).output }
 {
-    calls::whole::whole_run(sheet, table, marks, output)
+    match calls::whole::whole_run(sheet, table, marks, output) {
+        Ok(count) => count as i32,
+        Err(refusal) => i32::from(refusal),
+    }
 }
 
 // Sets a sheet up and writes what setup reports; answers 0, or -1 to -8, and nothing changes.
@@ -40,21 +44,22 @@ pub extern "C" fn bonxigarth_setup(
     ensures cleared { marks.new ≡ (setup_for_c sheet.now table.old marks.old reports.old).marks }
     ensures told { reports.new ≡ (setup_for_c sheet.now table.old marks.old reports.old).output }
 {
-    let up = setup_for(sheet, table, marks, Output::Reports(reports.len()));
-    let verdict = up.verdict;
-    let number = verdict.number();
-    if number == 0 {
-        let found = up.state.reports;
-        put_four(
-            reports,
-            0,
-            found.max_prec,
-            found.max_res,
-            found.dx_min,
-            found.dy_min,
-        );
-    }
-    number
+    let st = match setup_for(sheet, table, marks, Output::Reports(reports.len())) {
+        Ok(st) => st,
+        Err(refusal) => return i32::from(refusal),
+    };
+    let found = st.reports;
+    put_four(
+        reports,
+        0,
+        Four {
+            a: found.max_prec,
+            b: found.max_res,
+            c: found.dx_min,
+            d: found.dy_min,
+        },
+    );
+    0
 }
 
 // Writes the bounds of a tile and answers 0; or -10, or else -8, and nothing changes.
@@ -86,13 +91,22 @@ pub extern "C" fn bonxigarth_tile_bounds(
         th,
     };
     match geometry::tile::tile_bounds(image, grid, tileno) {
-        Tile::Bounds(a) => {
+        Some(a) => {
             if output.len() < 16 {
                 return -8;
             }
-            put_four(output, 0, a.x0, a.y0, a.x1, a.y1);
+            put_four(
+                output,
+                0,
+                Four {
+                    a: a.x0,
+                    b: a.y0,
+                    c: a.x1,
+                    d: a.y1,
+                },
+            );
             0
         }
-        Tile::Outside => -10,
+        None => -10,
     }
 }

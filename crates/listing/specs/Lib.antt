@@ -1,8 +1,6 @@
 -- What the listing program's contracts and proofs cite.
 pub mod Digits
 pub mod Decimals
-pub mod Signs
-pub mod Put
 pub mod Lines
 pub mod Records
 pub mod Padded

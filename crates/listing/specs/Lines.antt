@@ -1,18 +1,21 @@
 -- Lines of the output's records, and that they are those of the packets written there. Assumes nothing.
-use Rattle.std.specs.Prelude.{◌≡◌, refl, List, [], ◌∷◌, ◌++◌, ℕ, zero, suc, ◌+◌, ◌*◌, take}
-use Rattle.std.proofs.Common.{sym, ap, subst, ◌∙◌, append_assoc, append-nil, arith, add-one}
+use Rattle.std.specs.Prelude.{◌≡◌, refl, List, [], ◌∷◌, ◌++◌, ℕ, zero, suc, ◌+◌, ◌*◌}
+use Rattle.std.proofs.Common.{sym, ap, ◌∙◌, append_assoc, append-nil, arith, add-one}
 use Rattle.words.specs.Words.{word_at}
 use Rattle.packets.specs.Text.{decimal}
-use Rattle.listing.specs.Put.{Put, put_both}
 
 -- a line of four numbers
 abbrev pub line_with : ℕ → ℕ → ℕ → ℕ → List ℕ
 line_with a b c d = decimal a ++ 32 ∷ decimal b ++ 32 ∷ decimal c ++ 32 ∷ decimal d ++ 10 ∷ []
 
+-- one part put after the other
+pub put_both : (t x y : List ℕ) {u v : List ℕ} → u ≡ t ++ x → v ≡ u ++ y → v ≡ t ++ (x ++ y)
+put_both t x y p q = q ∙ ap (λ (l : List ℕ). l ++ y) p ∙ append_assoc t x y
+
 -- put number by number
-pub put-line : (a b c d : ℕ) {t u v w x : List ℕ} {i j k l m : ℕ} → Put t i u j (decimal a ++ 32 ∷ []) → Put u j v k (decimal b ++ 32 ∷ []) → Put v k w l (decimal c ++ 32 ∷ [])
-    → Put w l x m (decimal d ++ 10 ∷ []) → Put t i x m (line_with a b c d)
-put-line a b c d {t} {u} {v} {w} {x} {i} {j} {k} {l} {m} p q r s = subst (λ (line : List ℕ). Put t i x m line) same (put_both (put_both (put_both p q) r) s)
+pub put-line : (t : List ℕ) (a b c d : ℕ) {u v w x : List ℕ} → u ≡ t ++ (decimal a ++ 32 ∷ []) → v ≡ u ++ (decimal b ++ 32 ∷ []) → w ≡ v ++ (decimal c ++ 32 ∷ [])
+    → x ≡ w ++ (decimal d ++ 10 ∷ []) → x ≡ t ++ line_with a b c d
+put-line t a b c d p q r s = put_both _ _ _ (put_both _ _ _ (put_both _ _ _ p q) r) s ∙ ap (λ (l : List ℕ). t ++ l) same
   where
     same : (((decimal a ++ 32 ∷ []) ++ (decimal b ++ 32 ∷ [])) ++ (decimal c ++ 32 ∷ [])) ++ (decimal d ++ 10 ∷ []) ≡ line_with a b c d
     same = simp append_assoc
@@ -41,12 +44,11 @@ pub lines_none : (output : List ℕ) → [] ≡ lines_at output 0 0
 unfolding lines_at
 lines_none output = refl
 
-pub put-lines : (output : List ℕ) (i : ℕ) {t u : List ℕ} {at r : ℕ} → take at t ≡ lines_at output 0 i → Put t at u r (line_at output (16 * i)) → take r u ≡ lines_at output 0 (i + 1)
+pub put-lines : (output : List ℕ) (i : ℕ) {t u : List ℕ} → t ≡ lines_at output 0 i → u ≡ t ++ line_at output (16 * i) → u ≡ lines_at output 0 (i + 1)
 put-lines output i e p =
     let first : 0 + 16 * i ≡ 16 * i = omega arith in
-    let more : lines_at output 0 (suc i) ≡ lines_at output 0 i ++ line_at output (16 * i) = lines_more output 0 i ∙ ap (λ (n : ℕ). lines_at output 0 i ++ line_at output n) first in
-    rw (add-one i) (p.front ∙ ap (λ (l : List ℕ). l ++ line_at output (16 * i)) e ∙ sym more)
+    p ∙ rw (add-one i, lines_more output 0 i, first, e)
 
-pub put-count : (output : List ℕ) {t u : List ℕ} {at i r : ℕ} (n : ℕ) → i ≡ n → take at t ≡ lines_at output 0 i → Put t at u r (decimal n ++ 10 ∷ [])
-    → take r u ≡ lines_at output 0 n ++ (decimal n ++ 10 ∷ [])
-put-count output n s e p = p.front ∙ ap (λ (l : List ℕ). l ++ (decimal n ++ 10 ∷ [])) (e ∙ ap (lines_at output 0) s)
+pub put-count : (output : List ℕ) {t u : List ℕ} {i : ℕ} (n : ℕ) → i ≡ n → t ≡ lines_at output 0 i → u ≡ t ++ (decimal n ++ 10 ∷ [])
+    → u ≡ lines_at output 0 n ++ (decimal n ++ 10 ∷ [])
+put-count output n s e p = p ∙ ap (λ (l : List ℕ). l ++ (decimal n ++ 10 ∷ [])) (e ∙ ap (lines_at output 0) s)

@@ -3,22 +3,17 @@
 // written is told on standard error, with status 1.
 #![tactic(auto)]
 
-mod read;
 mod text;
 
-ghost use Rattle.std.specs.Prelude.{◌≤◌, length};
-
-use arrayvec::ArrayString;
+use arrayvec::{ArrayString, ArrayVec};
 use std::fmt::Write;
 use std::io;
+use std::io::Read;
 use std::process::ExitCode;
 
 // Prints the listing of a sheet.
-fn print(rt: &impl Print, sheet: &[u8], text: &mut [u8]) -> io::Result<()>
-    requires { 90123 ≤ length text.old }
-{
-    let n = text::listing(sheet, text);
-    rt.write_all(&text[..n])
+fn print(rt: &impl Print, sheet: &[u8]) -> io::Result<()> {
+    rt.write_all(text::listing(sheet).as_str().as_bytes())
 }
 
 // Tells on standard error where reading or writing failed, and why: the system's words, without its number for them.
@@ -38,11 +33,9 @@ fn fail(rt: &impl Eprint, place: &str, error: io::Error) -> ExitCode {
 
 fn main(rt: HostRuntime) -> ExitCode {
     // one byte more than 577 records, so that a longer input is refused and not cut
-    let mut sheet = [0u8; 18465];
-    // a line of at most 44 bytes for each of 2,048 marks, and 11 for the count
-    let mut text = [0u8; 90123];
-    match read::fill(&mut rt.stdin(), &mut sheet) {
-        Ok(n) => match print(&rt, &sheet[..n], &mut text) {
+    let mut sheet = ArrayVec::<u8, 18465>::new();
+    match io::copy(&mut rt.stdin().take(18465), &mut sheet) {
+        Ok(_) => match print(&rt, &sheet) {
             Ok(()) => ExitCode::SUCCESS,
             Err(e) => fail(&rt, "standard output", e),
         },

@@ -1,16 +1,17 @@
 -- The fields of a sheet that is read without a refusal: where they come from, and that they are in range. Assumes nothing.
 use Rattle.std.specs.Prelude.{◌≡◌, Bool, true, false, cond, ◌&&◌, ◌||◌, ◌⊎◌, List, eqb}
-use Rattle.std.proofs.Math.Path.{refl}
+use Rattle.std.proofs.Math.Path.{refl, ap}
 use Rattle.std.proofs.lemmas.Bool.{false≢true}
 use Rattle.std.proofs.Common.{inl, inr, arith}
 use Prim.Native.Nat.{ℕ, ◌+◌, ◌-◌, ◌<◌}
 use Rattle.laws.specs.Cases.{and_true, and_both}
 use Rattle.laws.specs.Below.{all-at}
 use Rattle.laws.specs.Pointwise.{all_true, filled-at, filled_beyond}
-use Rattle.types.specs.State.{no_progression}
+use Rattle.types.specs.State.{no_component, no_progression}
+use Rattle.types.specs.declared.state.Component.{Component}
 use Rattle.types.specs.Ranges.{component_range, exponent_range, is_volume, progression_range}
-use Rattle.packets.specs.Sheet.{wd, judged, unnamed, component_record, resolution_record, progression_record, progression_at, fields_of, volume_verdict, whole_tile_verdict}
-use Rattle.packets.specs.Tile.{dx_of, dy_of, res_of}
+use Rattle.packets.specs.Sheet.{wd, judged, unnamed, component_record, resolution_record, progression_record, component_at, progression_at, fields_of, volume_verdict, whole_tile_verdict}
+use Rattle.packets.specs.Tile.{component_of, dx_of, dy_of, res_of}
 use Rattle.packets.specs.Grid.{change_of}
 use Rattle.packets.specs.Sound.{tile_good, components_sound, progressions_sound, progression_good}
 use Rattle.packets.specs.Reading.{Read}
@@ -24,29 +25,22 @@ judged_zero false range e = absurd (let z : ◌≡◌ {A = ℕ} 2 0 = e in let n
 module _ (b : List ℕ) where
   -- component c's fields stand in its record, and beyond the last there is nothing
   module _ (c : ℕ) where
-    pub dx_is : c < wd b 0 6 → dx_of (fields_of b) c ≡ wd b (component_record b c) 1
+    component_is : c < wd b 0 6 → component_of (fields_of b) c ≡ component_at b (component_record b c)
     unfolding fields_of
-    dx_is h = filled-at _ 16 (wd b 0 6) 0 c h
+    component_is h = filled-at _ 16 (wd b 0 6) no_component c h
+
+    pub dx_is : c < wd b 0 6 → dx_of (fields_of b) c ≡ wd b (component_record b c) 1
+    dx_is h = ap (λ (t : Component). t.dx) (component_is h)
 
     pub dy_is : c < wd b 0 6 → dy_of (fields_of b) c ≡ wd b (component_record b c) 2
-    unfolding fields_of
-    dy_is h = filled-at _ 16 (wd b 0 6) 0 c h
+    dy_is h = ap (λ (t : Component). t.dy) (component_is h)
 
     pub res_is : c < wd b 0 6 → res_of (fields_of b) c ≡ wd b (component_record b c) 3
-    unfolding fields_of
-    res_is h = filled-at _ 16 (wd b 0 6) 0 c h
+    res_is h = ap (λ (t : Component). t.resolutions) (component_is h)
 
-    blank_dx : dx_of (fields_of b) (wd b 0 6 + c) ≡ 0
+    blank_component : component_of (fields_of b) (wd b 0 6 + c) ≡ no_component
     unfolding fields_of
-    blank_dx = filled_beyond _ 16 (wd b 0 6) 0 c
-
-    blank_dy : dy_of (fields_of b) (wd b 0 6 + c) ≡ 0
-    unfolding fields_of
-    blank_dy = filled_beyond _ 16 (wd b 0 6) 0 c
-
-    blank_res : res_of (fields_of b) (wd b 0 6 + c) ≡ 0
-    unfolding fields_of
-    blank_res = filled_beyond _ 16 (wd b 0 6) 0 c
+    blank_component = filled_beyond _ 16 (wd b 0 6) no_component c
 
   module _ (k : ℕ) where
     pub change_is : k < wd b 0 7 → change_of (fields_of b) k ≡ progression_at b (progression_record b k)
@@ -79,7 +73,9 @@ module _ (b : List ℕ) where
     components-sound =
         and_both
         (all_true _ (wd b 0 6) component-range)
-        (all_true _ (16 - wd b 0 6) (λ c h. rw (blank_dx c, blank_dy c, blank_res c) refl))
+        (all_true _ (16 - wd b 0 6) (λ c h.
+        let n = blank_component c in
+        rw (ap (λ (t : Component). t.dx) n, ap (λ (t : Component). t.dy) n, ap (λ (t : Component). t.resolutions) n) refl))
 
     -- a progression's record is of kind 4 or 6 and in range, or of kind 5, alone, with nothing but its order
     progression_good_lem : (k : ℕ) → k < wd b 0 7 → progression_good (fields_of b) (progression_at b (progression_record b k)) ≡ true

@@ -30,9 +30,7 @@ module _ (st : State) (table marks : List ℕ) (formed : Formed st) (sound : Sou
 
   component-small : (c : ℕ) → Bounded (2 ^ 32) (component_row st c)
   component-small c =
-      let x = formed.dx.1 c in
-      let y = formed.dy.1 c in
-      let r = formed.resolutions.1 c in
+      let f = formed.comps.1 c in
       bounded-each (2 ^ 32) (component_row st c) (omega arith) (search arith depth 24)
 
   resolution_small : (c r : ℕ) → c < st.components → r < res_of st c → Bounded (2 ^ 32) (resolution_row s c r)

@@ -1,9 +1,9 @@
 -- The sheet written from a sound state and its table says what they say: setup answers that state and writes that table. Assumes nothing.
-use Rattle.std.specs.Prelude.{◌≡◌, refl, true}
+use Rattle.std.specs.Prelude.{◌≡◌, true}
 use Rattle.std.proofs.Math.Path.{sym, ap}
 use Rattle.std.proofs.Common.{◌∙◌}
 use mathlib.Core.List.{List}
-use Prim.Native.Nat.{ℕ, zero, suc, ◌+◌, ◌-◌, ◌*◌, ◌≤◌, ◌<◌}
+use Prim.Native.Nat.{ℕ, zero, suc, ◌+◌, ◌-◌, ◌*◌, ◌<◌}
 use native.Mathlib.Omega.{arith}
 use Rattle.std.proofs.Math.ListN.{length, get_or, take}
 use Rattle.laws.specs.Gather.{gather}
@@ -15,14 +15,15 @@ use Rattle.words.specs.Words.{word_at, words_bytes}
 use Rattle.words.specs.Laws.{Bytes}
 use Rattle.words.specs.Exact.{words_from}
 use Rattle.geometry.specs.Line.{count}
-use Rattle.types.specs.State.{no_progression}
-use Rattle.packets.specs.Sheet.{wd, component_record, progression_record, fields_of, array_of}
-use Rattle.packets.specs.Tile.{res_of, reported, entries_before, table_bytes}
+use Rattle.types.specs.State.{no_component, no_progression}
+use Rattle.types.specs.declared.state.Component.{Component}
+use Rattle.packets.specs.Sheet.{progression_record, fields_of}
+use Rattle.packets.specs.Tile.{component_of, res_of, reported, entries_before, table_bytes}
 use Rattle.packets.specs.Grid.{change_of, grid_agreed}
 use Rattle.packets.specs.Table.{entry, table_of, entry_word, sheet_at, sheet_in}
 use Rattle.packets.specs.Alike.{Alike, max_prec-same, max_res-same, dx_min-same, dy_min-same, grid_same}
 use Rattle.packets.specs.Meaning.{Sound, grid_means}
-use Rattle.packets.specs.Written.{tile_row, component_row, written, Row}
+use Rattle.packets.specs.Written.{tile_row, written, Row}
 use Rattle.packets.specs.Rebuilt.{Formed}
 use Rattle.packets.proofs.Rebuilt.{tile_says, component_says, resolution_says, progression_says}
 use Rattle.packets.specs.Rows.{progression_back}
@@ -36,23 +37,25 @@ module _ (st : State) (table marks : List ℕ) (formed : Formed st) (sound : Sou
   tile = tile_says st table marks formed sound
 
   -- the arrays
-  array_back : (k : ℕ) → k < 8 → (l : List ℕ) → length l ≡ 16 → ((c : ℕ) → get_or (component_row st c) k 0 ≡ get_or l c 0)
-      → ((c : ℕ) → st.components ≤ c → c < 16 → get_or l c 0 ≡ 0) → l ≡ array_of 16 0 (λ c. wd b (component_record b c) k) (wd b 0 6)
-  array_back k h l long same blank =
+  comps_same : st.comps ≡ (fields_of b).comps
+  unfolding fields_of
+  comps_same =
       rw (tile 6 (omega arith))
-      (sym (filled_is _ 16 st.components 0 l long sound.tile.components.1 (λ c m. component_says st table marks formed sound c m k h ∙ same c) blank))
+      (sym
+      (filled_is _ 16 st.components no_component st.comps formed.comps.0 sound.tile.components.1
+      (λ c m.
+      let says = component_says st table marks formed sound c m in
+      let dx = says 1 (omega arith) in
+      let dy = says 2 (omega arith) in
+      let resolutions = says 3 (omega arith) in
+      λ i. record { dx = dx i; dy = dy i; resolutions = resolutions i })
+      (λ c l h.
+      let n = sound.component_beyond c l h in
+      λ i. record { dx = n.dx i; dy = n.dy i; resolutions = n.resolutions i })))
 
-  dx_same : st.dx ≡ (fields_of b).dx
-  unfolding fields_of
-  dx_same = array_back 1 (omega arith) st.dx formed.dx.0 (λ c. refl) (λ c l h. (sound.component_beyond c l h).dx)
-
-  dy_same : st.dy ≡ (fields_of b).dy
-  unfolding fields_of
-  dy_same = array_back 2 (omega arith) st.dy formed.dy.0 (λ c. refl) (λ c l h. (sound.component_beyond c l h).dy)
-
-  resolutions-same : st.resolutions ≡ (fields_of b).resolutions
-  unfolding fields_of
-  resolutions-same = array_back 3 (omega arith) st.resolutions formed.resolutions.0 (λ c. refl) (λ c l h. (sound.component_beyond c l h).resolutions)
+  -- what component c says
+  of_component : {A : Type 0} (f : Component → A) (c : ℕ) → f (component_of st c) ≡ f (component_of (fields_of b) c)
+  of_component f c = ap (λ (l : List Component). f (get_or l c no_component)) comps_same
 
   changes_same : st.changes ≡ (fields_of b).changes
   unfolding fields_of
@@ -68,20 +71,20 @@ module _ (st : State) (table marks : List ℕ) (formed : Formed st) (sound : Sou
   unfolding fields_of
   alike =
       record {
-        resolutions = resolutions-same;
+        resolutions = of_component (λ (t : Component). t.resolutions);
         components = sym (tile 6 (omega arith));
         same_x =
             λ c r h l.
             let t0 = sym (tile 1 (omega arith)) in
             let t1 = sym (tile 3 (omega arith)) in
             let pd = sym (resolution_says st table marks formed sound c r h l 1 (omega arith)) in
-            λ i. record { t0 = t0 i; t1 = t1 i; d = get_or (dx_same i) c 0; level = get_or (resolutions-same i) c 0 - 1 - r; pd = pd i };
+            λ i. record { t0 = t0 i; t1 = t1 i; d = of_component (λ (t : Component). t.dx) c i; level = of_component (λ (t : Component). t.resolutions) c i - 1 - r; pd = pd i };
         same_y =
             λ c r h l.
             let t0 = sym (tile 2 (omega arith)) in
             let t1 = sym (tile 4 (omega arith)) in
             let pd = sym (resolution_says st table marks formed sound c r h l 2 (omega arith)) in
-            λ i. record { t0 = t0 i; t1 = t1 i; d = get_or (dy_same i) c 0; level = get_or (resolutions-same i) c 0 - 1 - r; pd = pd i };
+            λ i. record { t0 = t0 i; t1 = t1 i; d = of_component (λ (t : Component). t.dy) c i; level = of_component (λ (t : Component). t.resolutions) c i - 1 - r; pd = pd i };
       }
 
   -- so the state is the sheet's, with what setup reports
@@ -108,9 +111,7 @@ module _ (st : State) (table marks : List ℕ) (formed : Formed st) (sound : Sou
         layers = layers i;
         components = components i;
         progressions = progressions i;
-        dx = dx_same i;
-        dy = dy_same i;
-        resolutions = resolutions-same i;
+        comps = comps_same i;
         changes = changes_same i;
         reports = record { max_prec = most i; max_res = deepest i; dx_min = least_x i; dy_min = least_y i };
       }
@@ -161,4 +162,4 @@ module _ (st : State) (table marks : List ℕ) (formed : Formed st) (sound : Sou
       let e : words_bytes ws ≡ take (0 + 4 * length ws) table = words_from table bytes ws 0 (omega arith) each_word in
       let components = sym (tile 6 (omega arith)) in
       ap (λ (k : ℕ). take k table) (sym m) ∙ sym e
-      ∙ (λ i. words_bytes (gather (λ c. gather (entry (sheet_in b) c) (span 0 (get_or (resolutions-same i) c 0))) (span 0 (components i))))
+      ∙ (λ i. words_bytes (gather (λ c. gather (entry (sheet_in b) c) (span 0 (of_component (λ (t : Component). t.resolutions) c i))) (span 0 (components i))))

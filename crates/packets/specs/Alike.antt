@@ -19,7 +19,7 @@ use Rattle.packets.specs.Grid.{everywhere, step_x, step_y, smallest, steps_fit, 
 
 -- two sheets with the same tile and components, whose resolutions see the same axes
 pub record Alike (s t : Sheet) : Type 0 where
-  pub resolutions : s.st.resolutions ≡ t.st.resolutions
+  pub resolutions : (c : ℕ) → res_of s.st c ≡ res_of t.st c
   pub components : s.st.components ≡ t.st.components
   pub same_x : (c r : ℕ) → c < s.st.components → r < res_of s.st c → line_x s c r ≡ line_x t c r
   pub same_y : (c r : ℕ) → c < s.st.components → r < res_of s.st c → line_y s c r ≡ line_y t c r
@@ -43,7 +43,7 @@ range_to a b q e = by (eqb q.kind 5)
 
 module _ (s t : Sheet) (a : Alike s t) where
   res_same : (c : ℕ) → res_of s.st c ≡ res_of t.st c
-  res_same c = ap (λ l. get_or l c 0) a.resolutions
+  res_same = a.resolutions
 
   -- what holds of each resolution of a component and of each component, the largest and the smallest of them
   one-over : (c : ℕ) (f g : ℕ → Bool) → ((r : ℕ) → r < res_of s.st c → f r ≡ g r) → all_below f (res_of s.st c) ≡ all_below g (res_of t.st c)

@@ -1,12 +1,18 @@
 -- A state whose fields are of the widths that a sheet's words have.
 use Rattle.std.specs.Prelude.{◌≡◌, ℕ, ◌^◌, ◌<◌, length}
-use Rattle.laws.specs.Bounded.{Bounded}
+use Rattle.packets.specs.Tile.{component_of}
 use Rattle.packets.specs.Grid.{change_of}
 use Rattle.packets.specs.Rows.{Signed}
+use Rattle.types.specs.declared.state.Component.{Component}
 use Rattle.types.specs.declared.state.Progression.{Progression}
 use Rattle.types.specs.declared.state.State.{State}
 
--- a progression and a state as the code holds them: every number fits its word, every array has its length
+-- a component, a progression and a state as the code holds them: every number fits its word, every array has its length
+pub record FormedComponent (c : Component) : Type 0 where
+  pub dx : c.dx < 2 ^ 32
+  pub dy : c.dy < 2 ^ 32
+  pub resolutions : c.resolutions < 2 ^ 32
+
 pub record FormedProgression (q : Progression) : Type 0 where
   pub kind : q.kind < 2 ^ 32
   pub prg : Signed q.prg
@@ -24,7 +30,5 @@ pub record Formed (st : State) : Type 0 where
   pub layers : st.layers < 2 ^ 32
   pub components : st.components < 2 ^ 32
   pub progressions : st.progressions < 2 ^ 32
-  pub dx : (length st.dx ≡ 16) × Bounded (2 ^ 32) st.dx
-  pub dy : (length st.dy ≡ 16) × Bounded (2 ^ 32) st.dy
-  pub resolutions : (length st.resolutions ≡ 16) × Bounded (2 ^ 32) st.resolutions
+  pub comps : (length st.comps ≡ 16) × ((c : ℕ) → FormedComponent (component_of st c))
   pub changes : (length st.changes ≡ 32) × ((k : ℕ) → FormedProgression (change_of st k))

@@ -4,7 +4,8 @@ use Rattle.laws.specs.Axis.{span}
 use Rattle.laws.specs.Below.{all_below}
 use Rattle.words.specs.Words.{word_at}
 use Rattle.types.specs.Ranges.{tile_range, component_range, exponent_range, is_volume, progression_range}
-use Rattle.types.specs.State.{no_progression, no_reports}
+use Rattle.types.specs.State.{no_component, no_progression, no_reports}
+use Rattle.types.specs.declared.state.Component.{Component}
 use Rattle.types.specs.declared.state.Progression.{Progression}
 use Rattle.types.specs.declared.state.State.{State}
 
@@ -95,6 +96,9 @@ resolution_record s c r = component_record s c + 1 + r
 abbrev pub progression_record : List ℕ → ℕ → ℕ
 progression_record s k = component_record s (wd s 0 6) + k
 
+abbrev pub component_at : List ℕ → ℕ → Component
+component_at s i = record { dx = wd s i 1; dy = wd s i 2; resolutions = wd s i 3 }
+
 -- 01: prg is read as signed (two's complement)
 abbrev pub signed_of : ℕ → ℤ
 signed_of w = cond (ltb w (2 ^ 31)) (pos w) (negsuc (2 ^ 32 - 1 - w))
@@ -118,9 +122,7 @@ fields_of s =
       layers = wd s 0 5;
       components = wd s 0 6;
       progressions = wd s 0 7;
-      dx = array_of 16 0 (λ c. wd s (component_record s c) 1) (wd s 0 6);
-      dy = array_of 16 0 (λ c. wd s (component_record s c) 2) (wd s 0 6);
-      resolutions = array_of 16 0 (λ c. wd s (component_record s c) 3) (wd s 0 6);
+      comps = array_of 16 no_component (λ c. component_at s (component_record s c)) (wd s 0 6);
       changes = array_of 32 no_progression (λ k. progression_at s (progression_record s k)) (wd s 0 7);
       reports = no_reports;
     }

@@ -4,6 +4,8 @@ use Rattle.std.specs.Prelude.{ℕ, ◌+◌, ◌-◌, ◌*◌, ◌/◌, ◌%◌, 
 use Rattle.laws.specs.Below.{max_below, min_below, sum_below}
 use Rattle.geometry.specs.Line.{Line, step, count, cell_low, cell_high}
 use Rattle.geometry.specs.declared.tile.Area.{Area}
+use Rattle.types.specs.State.{no_component}
+use Rattle.types.specs.declared.state.Component.{Component}
 use Rattle.types.specs.declared.state.Reports.{Reports}
 use Rattle.types.specs.declared.state.State.{State}
 use Rattle.types.specs.declared.cursor.Position.{Position}
@@ -14,15 +16,18 @@ pub record Sheet : Type 0 where
   pub pdx : ℕ → ℕ → ℕ
   pub pdy : ℕ → ℕ → ℕ
 
--- the fields of component c
+-- component c, and its fields
+abbrev pub component_of : State → ℕ → Component
+component_of st c = get_or st.comps c no_component
+
 abbrev pub dx_of : State → ℕ → ℕ
-dx_of st c = get_or st.dx c 0
+dx_of st c = (component_of st c).dx
 
 abbrev pub dy_of : State → ℕ → ℕ
-dy_of st c = get_or st.dy c 0
+dy_of st c = (component_of st c).dy
 
 abbrev pub res_of : State → ℕ → ℕ
-res_of st c = get_or st.resolutions c 0
+res_of st c = (component_of st c).resolutions
 
 -- 01: level = resolutions - 1 - resno, of the component
 abbrev pub level_of : State → ℕ → ℕ → ℕ
@@ -91,9 +96,7 @@ reported s =
       layers = st.layers;
       components = st.components;
       progressions = st.progressions;
-      dx = st.dx;
-      dy = st.dy;
-      resolutions = st.resolutions;
+      comps = st.comps;
       changes = st.changes;
       reports = reports_of s;
     }

@@ -1,15 +1,76 @@
--- Reading record by record: a good one leads to the next, a bad one decides, and after the last nothing may be missing. Assumes nothing.
-use mathlib.Core.Path.{◌≡◌}
-use mathlib.Core.Bool.{Bool, true, false, ◌&&◌}
-use mathlib.Core.List.{List}
-use Prim.Native.Nat.{ℕ, zero, suc, ◌+◌, ◌-◌, ◌*◌, ◌/◌, ◌%◌, ◌≤◌, ◌<◌}
-use native.Mathlib.Omega.{arith}
-use lib.ListN.{length}
-use borrow.Author.Tests.{lt-ltb, le-leb, eq-eqb}
-use lib.Dec.{ltb, eqb}
-use Rattle.laws.specs.Cases.{split}
-use Rattle.types.specs.Ranges.{tile_range, component_range, exponent_range, is_volume, progression_range}
-use Rattle.packets.specs.Sheet.{wd, unnamed, judged, tile_verdict, component_verdict, resolution_verdict, volume_verdict, whole_tile_verdict, progression_verdict, Due, due, record_verdict, due_after, complete, read_from, length_good, read_verdict}
+-- A sheet's records: each by itself is read as it is where it stands; a good one leads to the next, a bad one decides, and after the last nothing may be missing. Assumes nothing.
+use Rattle.std.proofs.Common.{◌≡◌, refl, ap, ◌∙◌, ℕ, zero, suc, ◌+◌, ◌-◌, ◌*◌, ◌/◌, ◌%◌, ◌≤◌, ◌<◌, true, false, List, [], length, take, drop, get_or, ltb, eqb, nat_abs, negsuc, arith, lt-ltb, le-leb, eq-eqb, ne_eqb, ltb-true, leb-true, eqb-true}
+use lib.Seq.{drop-drop}
+use Rattle.std.proofs.lemmas.List.{get_or-take, get_or-drop}
+use Rattle.std.specs.Simd.{first_chunks}
+use Rattle.laws.specs.Below.{not-below}
+use Rattle.laws.specs.Cases.{and_true, split}
+use Rattle.laws.specs.Pointwise.{all-same}
+use Rattle.words.specs.Laws.{word_part}
+use Rattle.types.specs.Answers.{number_of}
+use Rattle.types.specs.declared.answer.Refusal.{Refusal}
+use Rattle.types.specs.declared.answer.Refusal.TheVariants as kind
+use Rattle.packets.specs.Calls.{refusal}
+use Rattle.packets.specs.Sheet.{wd, unnamed, tile_verdict, component_verdict, resolution_verdict, progression_verdict, component_at, progression_at, Due, due, record_verdict, due_after, complete, read_from, length_good, read_verdict}
+
+-- the bytes of record i, as a sheet of one record, have its words
+pub record IsRecord (b s : List ℕ) (i : ℕ) : Type 0 where
+  pub word : (k : ℕ) → k < 8 → wd b 0 k ≡ wd s i k
+
+record_part : (s : List ℕ) (i : ℕ) → 32 * i + 32 ≤ length s → IsRecord (take 32 (drop (32 * i) s)) s i
+record_part s i h =
+    record {
+      word = λ k l. let e : 32 * 0 + 4 * k ≡ 4 * k = omega arith in rw e (word_part s (32 * i) 32 (4 * k) h (λ g. omega arith));
+    }
+
+-- chunk i of n
+chunk : (s d : List ℕ) (n i : ℕ) → i < n → get_or (first_chunks 32 n s) i d ≡ take 32 (drop (32 * i) s)
+chunk s d zero i h = not-below i h
+chunk s d (suc n) zero h = refl
+chunk s d (suc n) (suc i) h =
+    let e : 32 + 32 * i ≡ 32 * suc i = omega arith in
+    chunk (drop 32 s) d n i (omega arith) ∙ ap (take 32) (drop-drop (32 * i) 32 s ∙ ap (λ (n : ℕ). drop n s) e)
+
+-- a sheet cut into its records: each where it stands, and those after the tile's
+module _ (s : List ℕ) (records : List (List ℕ)) (cut : records ≡ first_chunks 32 (length s / 32) s) where
+  pub record-at : (i : ℕ) → i < length s / 32 → IsRecord (get_or records i []) s i
+  record-at i h = rw (cut, chunk s [] (length s / 32) i h) (record_part s i (omega arith))
+
+  pub record_behind : (n i : ℕ) → i < n → n < length s / 32 → IsRecord (get_or (take n (drop 1 records)) i []) s (i + 1)
+  record_behind n i h l =
+      let e : 1 + i ≡ i + 1 = omega arith in
+      rw (get_or-take n (drop 1 records) i [] h, get_or-drop 1 records i [], e) (record-at (i + 1) (omega arith))
+
+module _ {b s : List ℕ} {i : ℕ} (is : IsRecord b s i) where
+  unnamed-same : (k : ℕ) → unnamed b 0 k ≡ unnamed s i k
+  unnamed-same k = all-same _ _ (8 - k) (λ j h. ap (λ (w : ℕ). eqb w 0) (is.word (k + j) (omega arith)))
+
+  pub tile-same : tile_verdict b 0 ≡ tile_verdict s i
+  tile-same = rw (is.word 0 (omega arith), is.word 1 (omega arith), is.word 2 (omega arith), is.word 3 (omega arith), is.word 4 (omega arith), is.word 5 (omega arith), is.word 6 (omega arith), is.word 7 (omega arith))
+
+  component-same : component_verdict b 0 ≡ component_verdict s i
+  component-same = rw (unnamed-same 4, is.word 0 (omega arith), is.word 1 (omega arith), is.word 2 (omega arith), is.word 3 (omega arith))
+
+  resolution-same : resolution_verdict b 0 ≡ resolution_verdict s i
+  resolution-same = rw (unnamed-same 3, is.word 0 (omega arith), is.word 1 (omega arith), is.word 2 (omega arith))
+
+  progression-same : (count : ℕ) → progression_verdict b count 0 ≡ progression_verdict s count i
+  progression-same count = rw (unnamed-same 2, unnamed-same 7, is.word 0 (omega arith), is.word 2 (omega arith), is.word 4 (omega arith), is.word 5 (omega arith))
+
+  pub record-same : (count : ℕ) (d : Due) → record_verdict b count 0 d ≡ record_verdict s count i d
+  unfolding record_verdict
+  record-same count d = rw (component-same, resolution-same, progression-same count)
+
+  pub due-same : (d : Due) → due_after b 0 d ≡ due_after s i d
+  unfolding due_after
+  due-same d = rw (is.word 3 (omega arith))
+
+  pub component_fields-same : component_at b 0 ≡ component_at s i
+  component_fields-same = rw (is.word 1 (omega arith), is.word 2 (omega arith), is.word 3 (omega arith))
+
+  pub fields-same : progression_at b 0 ≡ progression_at s i
+  unfolding progression_at
+  fields-same = rw (is.word 0 (omega arith), is.word 1 (omega arith), is.word 2 (omega arith), is.word 3 (omega arith), is.word 4 (omega arith), is.word 5 (omega arith), is.word 6 (omega arith))
 
 module _ (s : List ℕ) (count n i : ℕ) (d : Due) where
   pub read_more : i < n → record_verdict s count i d ≡ 0 → read_from s count (n - i) i d ≡ read_from s count (n - (i + 1)) (i + 1) (due_after s i d)
@@ -29,22 +90,20 @@ module _ (s : List ℕ) (count n i : ℕ) (d : Due) where
     unfolding read_from
     read_missing g = let e : n - i ≡ 0 = omega arith in rw (e, g)
 
--- a progression's verdict is by its kind
-module _ (s : List ℕ) (count i : ℕ) where
-  pub of-whole_tile : eqb (wd s i 0) 5 ≡ true → progression_verdict s count i ≡ whole_tile_verdict s count i
-  of-whole_tile e = rw e
-
-  pub of-volume : eqb (wd s i 0) 5 ≡ false → progression_verdict s count i ≡ volume_verdict s i
-  of-volume e = rw e
-
 -- the whole sheet: its length, then the tile's record, then the records after it
 module _ (s : List ℕ) where
   pub good-length : 0 < length s → length s % 32 ≡ 0 → length s ≤ 32 * 577 → length_good s ≡ true
   good-length a b c = rw (lt-ltb 0 (length s) a, eq-eqb (length s % 32) 0 b, le-leb (length s) (32 * 577) c)
 
-  pub refused_length : length_good s ≡ false → 1 ≡ read_verdict s
+  pub refused_length : (0 < length s → length s % 32 ≡ 0 → length s ≤ 32 * 577 → ⊥) → 1 ≡ read_verdict s
   unfolding read_verdict
-  refused_length e = rw e
+  refused_length f =
+      split (length_good s)
+      (λ t.
+      let a = and_true (ltb 0 (length s)) _ t in
+      let b = and_true (eqb (length s % 32) 0) _ a.1 in
+      absurd (f (ltb-true _ _ a.0) (eqb-true _ _ b.0) (leb-true _ _ b.1)))
+      (λ t. rw t)
 
   module _ (good : length_good s ≡ true) where
     pub refused_tile : eqb (tile_verdict s 0) 0 ≡ false → tile_verdict s 0 ≡ read_verdict s
@@ -55,50 +114,19 @@ module _ (s : List ℕ) where
     unfolding read_verdict
     read-behind e = rw (good, e)
 
--- a verdict is at most 3
-judged-small : (shape range : Bool) → judged shape range ≤ 3
-judged-small true true = omega arith
-judged-small true false = omega arith
-judged-small false range = omega arith
+-- a refusal's number is negative
+refused : (e : Refusal) → (n : ℕ) × (number_of e ≡ negsuc n)
+refused kind.Length = (0, refl)
+refused kind.Shape = (1, refl)
+refused kind.Range = (2, refl)
+refused kind.Grid = (3, refl)
+refused kind.TooMany = (4, refl)
+refused kind.Marks = (5, refl)
+refused kind.Table = (6, refl)
+refused kind.Output = (7, refl)
 
-module _ (s : List ℕ) where
-  tile-small : (i : ℕ) → tile_verdict s i ≤ 3
-  tile-small i = judged-small (eqb (wd s i 0) 1) (tile_range (wd s i 1) (wd s i 2) (wd s i 3) (wd s i 4) (wd s i 5) (wd s i 6) (wd s i 7))
+pub bad : {v : ℕ} (e : Refusal) → nat_abs (number_of e) ≡ v → eqb v 0 ≡ false
+bad e h = let r = refused e in rw (← h, r.1) (ne_eqb (suc r.0) 0 (omega arith))
 
-  component-small : (i : ℕ) → component_verdict s i ≤ 3
-  component-small i = judged-small (eqb (wd s i 0) 2 && unnamed s i 4) (component_range (wd s i 1) (wd s i 2) (wd s i 3))
-
-  resolution_small : (i : ℕ) → resolution_verdict s i ≤ 3
-  resolution_small i = judged-small (eqb (wd s i 0) 3 && unnamed s i 3) (exponent_range (wd s i 1) (wd s i 2))
-
-  progression_small : (count i : ℕ) → progression_verdict s count i ≤ 3
-  progression_small count i =
-      split (eqb (wd s i 0) 5)
-      (λ t. rw (of-whole_tile s count i t) (judged-small (eqb (wd s i 0) 5 && (unnamed s i 2 && eqb count 1)) true))
-      (λ t. rw (of-volume s count i t) (judged-small (is_volume (wd s i 0) && unnamed s i 7) (progression_range (wd s i 2) (wd s i 4) (wd s i 5))))
-
-  record_small : (count i : ℕ) (d : Due) → record_verdict s count i d ≤ 3
-  unfolding record_verdict
-  record_small count i d =
-      split (ltb 0 d.resolutions)
-      (λ t. rw t (resolution_small i))
-      (λ t.
-      split (ltb 0 d.components)
-      (λ u. rw (t, u) (component-small i))
-      (λ u. split (ltb 0 d.progressions) (λ v. rw (t, u, v) (progression_small count i)) (λ v. rw (t, u, v) (omega arith))))
-
-  from_small : (count n i : ℕ) (d : Due) → read_from s count n i d ≤ 3
-  unfolding read_from
-  from_small count zero i d = split (complete d) (λ t. rw t (omega arith)) (λ t. rw t (omega arith))
-  from_small count (suc n) i d =
-      split (eqb (record_verdict s count i d) 0) (λ t. rw t (from_small count n (i + 1) (due_after s i d))) (λ t. rw t (record_small count i d))
-
-  pub verdict-small : read_verdict s ≤ 3
-  unfolding read_verdict
-  verdict-small =
-      split (length_good s)
-      (λ t.
-      split (eqb (tile_verdict s 0) 0)
-      (λ u. rw (t, u) (from_small (wd s 0 7) (length s / 32 - 1) 1 (due 0 (wd s 0 6) (wd s 0 7))))
-      (λ u. rw (t, u) (tile-small 0)))
-      (λ t. rw t (omega arith))
+pub said : {v : ℕ} (e : Refusal) → nat_abs (number_of e) ≡ v → number_of e ≡ refusal v
+said e h = let r = refused e in rw (← h, r.1) (ap negsuc (omega arith))

@@ -1,24 +1,15 @@
 -- What reading a sheet answers (01: -1, -2, -3): the fields, or a refusal with the empty state.
-use Rattle.std.specs.Prelude.{ℕ, zero, suc, cond, List, eqb, pos}
+use Rattle.std.specs.Prelude.{ℕ, cond, List, eqb, pos, nat_abs, Result, Ok, Err}
 use Rattle.types.specs.State.{empty_state}
-use Rattle.packets.specs.Sheet as sheet
 use Rattle.packets.specs.Sheet.{read_verdict, fields_of}
-use Rattle.types.specs.Answers.{SetUpSaid}
+use Rattle.types.specs.Answers.{SetUpSaid, number_of}
 use Rattle.packets.specs.Calls.{refusal}
-use Rattle.types.specs.declared.answer.Verdict.{Verdict}
-use Rattle.types.specs.declared.answer.Verdict.TheVariants.{Accepted, Length, Shape, Range}
-use Rattle.reader.specs.declared.judge.Due.{Due}
+use Rattle.types.specs.declared.answer.Refusal.{Refusal}
 
--- what is due, in the words of the definitions
-abbrev pub due_of : Due → sheet.Due
-due_of d = sheet.due d.resolutions d.components d.progressions
-
--- the verdicts of reading, by number
-abbrev pub verdict_of : ℕ → Verdict
-verdict_of zero = Accepted
-verdict_of (suc zero) = Length
-verdict_of (suc (suc zero)) = Shape
-verdict_of (suc (suc (suc n))) = Range
+-- a verdict in the numbers of the definitions: that of its refusal, without its sign, or 0
+abbrev pub verdict_of : {A : Type 0} → Result A Refusal → ℕ
+verdict_of (Ok a) = 0
+verdict_of (Err e) = nat_abs (number_of e)
 
 -- the fields of a sheet with no refusal; else the refusal, which carries only its number
 unfoldable pub read_of : List ℕ → SetUpSaid

@@ -1,17 +1,19 @@
--- The total: ranges that are kept as numbers are read back, the layers over a component are raised range by range, and the sum is the definition's, with every
--- part of it small. Assumes nothing.
+-- The total: the ranges are kept, the layers over a component are raised range by range, and the sum is the definition's, with every part of it small. Assumes
+-- nothing.
+use Rattle.std.proofs.Common.{below_more}
+use Rattle.std.proofs.lemmas.List.{get_or-take}
 use mathlib.Core.Path.{◌≡◌, refl, sym, ap, ◌∙◌}
 use mathlib.Core.Bool.{Bool, true, false, cond, ◌&&◌}
 use mathlib.Core.List.{List}
 use mathlib.Core.Logic.{⊎_elim}
 use Prim.Native.Nat.{ℕ, zero, suc, ◌+◌, ◌*◌, ◌≤◌, ◌<◌, min, max}
 use native.Mathlib.Omega.{arith}
-use lib.ListN.{length, get_or, set, replicate, length-set, length-replicate, get_or-replicate}
+use lib.ListN.{length, get_or, set, take, replicate, length-set, length-replicate, get_or-replicate}
 use lib.Seq.{get_or-set_same, get_or-set_other}
 use lib.Dec.{ltb, leb}
 use borrow.Author.Tests.{lt-ltb, le-ltb, le-leb, lt-leb}
 use Rattle.laws.specs.Cases.{le_or_lt, and_false}
-use Rattle.laws.specs.Below.{sum_below, sum_none, sum_more, sum_part, max_none, max_more}
+use Rattle.laws.specs.Below.{sum_below, sum_none, sum_more, sum_part, max_below, max_none, max_more}
 use Rattle.laws.specs.Pointwise.{max-same}
 use Rattle.types.specs.Orders.{order_of, range_of, components_good}
 use Rattle.types.specs.declared.order.Order.{Order}
@@ -28,7 +30,7 @@ use Rattle.packets.specs.Totals.{layers_by, layers_admitted, total}
 use Rattle.packets.specs.Meaning.{Sound, Fit, sound-means}
 use Rattle.packets.proofs.Entered.{few_before, few-precincts}
 use Rattle.packets.proofs.Admitted.{total-few}
-use Rattle.soundness.specs.Totals.{is_order, layers_for, with_layers, range_at, put_range, Ranged, between, Raised, layers_in, layers_over, precincts_at, packets_of, Few}
+use Rattle.soundness.specs.Totals.{is_order, layers_for, with_layers, range_at, Ranged, between, Raised, layers_in, layers_to, layers_over, precincts_at, packets_of, Few}
 use Rattle.soundness.specs.Reached.{Reached}
 use Rattle.soundness.proofs.Resolution.{entry, count_is}
 
@@ -36,87 +38,17 @@ use Rattle.soundness.proofs.Resolution.{entry, count_is}
 past : (l : List ℕ) (i j a : ℕ) → j < i → get_or (set l i a) j 0 ≡ get_or l j 0
 past l i j a h = get_or-set_other l i j a 0 (λ e. omega arith)
 
--- A RANGE PUT AT PLACE k, number by number
-module _ (l : List ℕ) (k : ℕ) (g : Range) (n : ℕ) where
-  abbrev l1 : List ℕ
-  l1 = set l (5 * k) n
+-- the ranges of one progression more are kept
+pub ranged_more : (st : State) (kept : List Range) (k : ℕ) → k < length kept → Ranged st kept k → {g : Range} {l : ℕ}
+    → g ≡ range_of st (change_of st k) → l ≡ layers_for st (change_of st k) g → Ranged st (set kept k (with_layers g l)) (k + 1)
+ranged_more st kept k h w {g} {l} e d =
+    below_more _ _
+    (λ i p. get_or-set_other kept k i (with_layers g l) _ (λ z. omega arith) ∙ w i p)
+    (get_or-set_same kept k (with_layers g l) _ h ∙ rw (d, e))
 
-  abbrev l2 : List ℕ
-  l2 = set l1 (5 * k + 1) g.resno0
-
-  abbrev l3 : List ℕ
-  l3 = set l2 (5 * k + 2) g.resno1
-
-  abbrev l4 : List ℕ
-  l4 = set l3 (5 * k + 3) g.compno0
-
-  abbrev written : List ℕ
-  written = put_range l k g n
-
-  -- from a number to those written before it
-  past_1 : (j : ℕ) → j < 5 * k + 1 → get_or l2 j 0 ≡ get_or l1 j 0
-  past_1 j h = past l1 (5 * k + 1) j g.resno0 h
-
-  past_2 : (j : ℕ) → j < 5 * k + 2 → get_or l3 j 0 ≡ get_or l2 j 0
-  past_2 j h = past l2 (5 * k + 2) j g.resno1 h
-
-  past_3 : (j : ℕ) → j < 5 * k + 3 → get_or l4 j 0 ≡ get_or l3 j 0
-  past_3 j h = past l3 (5 * k + 3) j g.compno0 h
-
-  past_4 : (j : ℕ) → j < 5 * k + 4 → get_or written j 0 ≡ get_or l4 j 0
-  past_4 j h = past l4 (5 * k + 4) j g.compno1 h
-
-  past_all : (j : ℕ) → j < 5 * k → get_or written j 0 ≡ get_or l j 0
-  past_all j h = past_4 j (omega arith) ∙ past_3 j (omega arith) ∙ past_2 j (omega arith) ∙ past_1 j (omega arith) ∙ past l (5 * k) j n h
-
-  -- the ranges before stay
-  pub written_before : (i : ℕ) → i < k → range_at written i ≡ range_at l i
-  written_before i h =
-      rw (
-        past_all (5 * i) (omega arith),
-        past_all (5 * i + 1) (omega arith),
-        past_all (5 * i + 2) (omega arith),
-        past_all (5 * i + 3) (omega arith),
-        past_all (5 * i + 4) (omega arith),
-      )
-
-  -- and the range is there
-  pub written-there : k < 32 → length l ≡ 160 → range_at written k ≡ with_layers g n
-  written-there h long =
-      let n1 : length l1 ≡ 160 = length-set l (5 * k) n ∙ long in
-      let n2 : length l2 ≡ 160 = length-set l1 (5 * k + 1) g.resno0 ∙ n1 in
-      let n3 : length l3 ≡ 160 = length-set l2 (5 * k + 2) g.resno1 ∙ n2 in
-      let n4 : length l4 ≡ 160 = length-set l3 (5 * k + 3) g.compno0 ∙ n3 in
-      rw (
-        past_4 (5 * k) (omega arith),
-        past_3 (5 * k) (omega arith),
-        past_2 (5 * k) (omega arith),
-        past_1 (5 * k) (omega arith),
-        get_or-set_same l (5 * k) n 0 (omega arith),
-        past_4 (5 * k + 1) (omega arith),
-        past_3 (5 * k + 1) (omega arith),
-        past_2 (5 * k + 1) (omega arith),
-        get_or-set_same l1 (5 * k + 1) g.resno0 0 (omega arith),
-        past_4 (5 * k + 2) (omega arith),
-        past_3 (5 * k + 2) (omega arith),
-        get_or-set_same l2 (5 * k + 2) g.resno1 0 (omega arith),
-        past_4 (5 * k + 3) (omega arith),
-        get_or-set_same l3 (5 * k + 3) g.compno0 0 (omega arith),
-        get_or-set_same l4 (5 * k + 4) g.compno1 0 (omega arith),
-      )
-
-pub put_long : (kept : List ℕ) (k : ℕ) (g : Range) (l : ℕ) {n : ℕ} → length kept ≡ n → length (put_range kept k g l) ≡ n
-put_long kept k g l long = simp length-set long
-
--- so the ranges of one progression more are kept
-module _ (st : State) (kept : List ℕ) (k : ℕ) where
-  pub ranged_more : k < 32 → length kept ≡ 160 → Ranged st kept k → {g : Range} {l : ℕ} → g ≡ range_of st (change_of st k) → l ≡ layers_for st (change_of st k) g
-      → Ranged st (put_range kept k g l) (k + 1)
-  ranged_more h long w {g} {l} e d i j =
-      ⊎_elim
-      (λ (p : k ≤ i). let q : i ≡ k = omega arith in rw q (rw (← e) (written-there kept k g l h long ∙ ap (with_layers g) d)))
-      (λ (p : i < k). written_before kept k g l i p ∙ w i p)
-      (le_or_lt k i)
+-- and those of the first n alone are the same
+pub ranged_first : (st : State) (kept : List Range) (n : ℕ) → Ranged st kept n → Ranged st (take n kept) n
+ranged_first st kept n w k h = get_or-take n kept k _ h ∙ w k h
 
 -- LAYERS RAISED from a up to r
 none_between : (a b i : ℕ) → b ≤ a → between a b i ≡ false
@@ -163,23 +95,23 @@ module _ (held : List ℕ) (a layers : ℕ) where
       }
 
 -- THE LAYERS OVER A COMPONENT, of the first k ranges
-pub record Over (kept : List ℕ) (c m : ℕ) (most : List ℕ) (k : ℕ) : Type 0 where
+pub record Over (kept : List Range) (c m : ℕ) (most : List ℕ) (k : ℕ) : Type 0 where
   pub long : length most ≡ 33
-  pub each : (r : ℕ) → r < m → get_or most r 0 ≡ layers_over kept k c r
+  pub each : (r : ℕ) → r < m → get_or most r 0 ≡ layers_to kept c r k
 
 -- below m it does not matter that the end is at most m
 cut_off : (a b m r : ℕ) → r < m → between a (min b m) r ≡ between a b r
 cut_off a b m r h =
     ⊎_elim (λ (p : b ≤ r). rw (le-ltb r b p, le-ltb r (min b m) (omega arith))) (λ (p : r < b). rw (lt-ltb r b p, lt-ltb r (min b m) (omega arith))) (le_or_lt b r)
 
-module _ (kept : List ℕ) (c m : ℕ) where
+module _ (kept : List Range) (c m : ℕ) where
   pub over_none : m ≤ 33 → Over kept c m (replicate 33 0) 0
-  unfolding layers_over
+  unfolding layers_to
   over_none h = record { long = length-replicate {A = ℕ} 33 0; each = λ r l. get_or-replicate {A = ℕ} 33 r 0 0 (omega arith) ∙ sym (max_none _) }
 
   module _ {most : List ℕ} {k : ℕ} (w : Over kept c m most k) {g : Range} (is : g ≡ range_at kept k) where
-    more : (r : ℕ) → r < m → layers_over kept (k + 1) c r ≡ max (get_or most r 0) (layers_in g c r)
-    unfolding layers_over
+    more : (r : ℕ) → r < m → layers_to kept c r (k + 1) ≡ max (get_or most r 0) (layers_in g c r)
+    unfolding layers_to
     more r l = rw (w.each r l, is) (max_more (λ i. layers_in (range_at kept i) c r) k)
 
     -- a range that does not go over the component
@@ -192,19 +124,19 @@ module _ (kept : List ℕ) (c m : ℕ) where
     over-raised e d u = record { long = u.long; each = λ r l. rw (more r l, e, u.each r, d, cut_off g.resno0 g.resno1 m r l) }
 
 -- THE PACKETS OF A COMPONENT, resolution by resolution
-module _ (kept : List ℕ) (n : ℕ) (table : List ℕ) (e c : ℕ) where
-  pub packets_none : packets_of kept n table e c 0 ≡ 0
+module _ (kept : List Range) (table : List ℕ) (e c : ℕ) where
+  pub packets_none : packets_of kept table e c 0 ≡ 0
   unfolding packets_of
   packets_none = sum_none _
 
-  pub packets_more : (r : ℕ) → packets_of kept n table e c (r + 1) ≡ packets_of kept n table e c r + precincts_at table (e + r) * layers_over kept n c r
+  pub packets_more : (r : ℕ) → packets_of kept table e c (r + 1) ≡ packets_of kept table e c r + precincts_at table (e + r) * layers_over kept c r
   unfolding packets_of
   packets_more r = sum_more _ r
 
   -- so far they are few
-  pub packets-few : {m : ℕ} → Few kept n table e c m → (r : ℕ) → r < m → packets_of kept n table e c r + precincts_at table (e + r) * layers_over kept n c r ≤ 65536
+  pub packets-few : {m : ℕ} → Few kept table e c m → (r : ℕ) → r < m → packets_of kept table e c r + precincts_at table (e + r) * layers_over kept c r ≤ 65536
   unfolding packets_of
-  packets-few {m} f r h = omega (arith, f.packets, sum_part (λ i. precincts_at table (e + i) * layers_over kept n c i) m r h)
+  packets-few {m} f r h = omega (arith, f.packets, sum_part (λ i. precincts_at table (e + i) * layers_over kept c i) m r h)
 
 -- THE LAYERS THAT A PROGRESSION ADMITS are those of the range that is kept of it
 either_way : (t : Bool) (n : ℕ) → cond t n n ≡ n
@@ -292,24 +224,23 @@ module _ (st : State) (table : List ℕ) (fit : Fit st table) where
     pub precincts_are : (r : ℕ) → r < res_of st c → precincts_at table (entries_before st c + r) ≡ precincts s c r
     precincts_are r l = ap (λ (e : Entry). e.width * e.height) (entry st table c r (at r l)) ∙ count_is st table c r (at r l)
 
-  module _ (kept : List ℕ) (ranged : Ranged st kept st.progressions) where
-    layers_are : (c r : ℕ) → layers_over kept st.progressions c r ≡ layers_admitted s c r
-    unfolding layers_over layers_admitted
-    layers_are c r = max-same _ _ st.progressions (λ k h. ap (λ (g : Range). layers_in g c r) (ranged k h) ∙ layers_by_lem s c r (change_of st k))
+  module _ (kept : List Range) (long : length kept ≡ st.progressions) (ranged : Ranged st kept st.progressions) where
+    layers_are : (c r : ℕ) → layers_over kept c r ≡ layers_admitted s c r
+    unfolding layers_to layers_admitted
+    layers_are c r = ap (max_below (λ i. layers_in (range_at kept i) c r)) long ∙ max-same _ _ st.progressions (λ k h. ap (λ (g : Range). layers_in g c r) (ranged k h) ∙ layers_by_lem s c r (change_of st k))
 
     module _ (c : ℕ) (h : c < st.components) where
       -- the packets counted by its entries are those admitted
-      packets_are : packets_of kept st.progressions table (entries_before st c) c (res_of st c) ≡ admitted_of s c
+      packets_are : packets_of kept table (entries_before st c) c (res_of st c) ≡ admitted_of s c
       unfolding packets_of admitted_of
       packets_are = same-sum _ _ (res_of st c) (λ r l. rw (precincts_are c h r l, layers_are c r))
 
       -- the component's first entry is number e
       module _ {e : ℕ} (first : e ≡ entries_before st c) where
-        pub packets-small : Few kept st.progressions table e c (res_of st c)
+        pub packets-small : Few kept table e c (res_of st c)
         packets-small =
             rw first
             record {
-              ranges = sound.tile.progressions.1;
               resolutions = (sound.component c h).resolutions.1;
               entry = omega (arith, few_before st table fit.marks sound c h, sound.tile.components.1);
               precincts = λ r l. rw (precincts_are c h r l) (few-precincts st table fit.marks sound c r h);
@@ -317,7 +248,7 @@ module _ (st : State) (table : List ℕ) (fit : Fit st table) where
             }
 
         -- one component more
-        pub sum_added : {x y : ℕ} → x ≡ admitted_below s c → y ≡ packets_of kept st.progressions table e c (res_of st c)
+        pub sum_added : {x y : ℕ} → x ≡ admitted_below s c → y ≡ packets_of kept table e c (res_of st c)
             → (x + y ≡ admitted_below s (c + 1)) × (x + y ≤ 65536)
         sum_added p q =
             let d = rw first at q in

@@ -1,23 +1,29 @@
 -- The fields of a state place by place: one test for each place of an array is the definition's two tests, of the places taken and of those beyond. Assumes nothing.
+use Rattle.std.specs.Prelude.{zero, suc, ℤ, pos, negsuc}
+use Rattle.std.specs.Ordering.{int_eq}
+use Rattle.std.proofs.lemmas.Bool.Decides.{Decides-int_eq}
 use mathlib.Core.Path.{◌≡◌, refl, sym}
 use mathlib.Core.Bool.{Bool, true, false, ◌&&◌, ◌||◌}
-use Prim.Native.Nat.{ℕ, ◌-◌, ◌≤◌}
+use Prim.Native.Nat.{ℕ, ◌≤◌}
 use lib.Dec.{ltb, leb, eqb}
-use mir.Syntax.{w32}
-use mir.Val.{SFits, of_z}
 use borrow.Author.Tests.{lt-ltb, le-ltb, leb-true}
-use Rattle.laws.specs.Cases.{and_true}
+use Rattle.laws.specs.Cases.{and_true, split}
 use Rattle.laws.specs.Below.{all_below}
 use Rattle.laws.specs.Parts.{all-parts}
 use Rattle.types.specs.Ranges.{within, is_volume, not-whole, progression_range}
-use Rattle.packets.specs.Tile.{dx_of, dy_of, res_of}
+use Rattle.packets.specs.Tile.{component_of, dx_of, dy_of, res_of}
 use Rattle.packets.specs.Grid.{change_of}
-use Rattle.types.specs.Signed.{bits_zero}
 use Rattle.types.specs.Signed.{is_zero}
 use Rattle.packets.specs.Sound.{tile_good, components_sound, no_range, progressions_sound}
 use Rattle.types.specs.declared.state.Progression.{Progression}
 use Rattle.types.specs.declared.state.State.{State}
 use Rattle.soundness.specs.Fields.{component_fits, progression_fits}
+
+zero_is : (z : ℤ) → int_eq z (pos 0) ≡ is_zero z
+zero_is (pos zero) = refl
+zero_is (pos (suc n)) =
+    split (int_eq (pos (suc n)) (pos 0)) (λ e. let z : pos (suc n) ≡ pos 0 = (Decides-int_eq (pos (suc n)) (pos 0)).0 e in cc) (λ e. e)
+zero_is (negsuc n) = refl
 
 or_false : (t : Bool) → (t || false) ≡ t
 or_false true = refl
@@ -33,14 +39,14 @@ module _ (there alone : Bool) (q : Progression) where
   unfolding progression_fits
   fits-whole t k = rw (t, k)
 
-  pub fits_none : there ≡ false → SFits w32 q.prg → (eqb q.kind 0 && (eqb (of_z w32 q.prg) 0 && no_range q)) ≡ progression_fits there alone q
+  pub fits_none : there ≡ false → (eqb q.kind 0 && (int_eq q.prg (pos 0) && no_range q)) ≡ progression_fits there alone q
   unfolding progression_fits
-  fits_none t f = rw (t, bits_zero q.prg f)
+  fits_none t = rw (t, zero_is q.prg)
 
 module _ (st : State) where
   -- the test of place c, and of place k
   abbrev pub component_at : ℕ → Bool
-  component_at c = component_fits (ltb c st.components) (dx_of st c) (dy_of st c) (res_of st c)
+  component_at c = component_fits (ltb c st.components) (component_of st c)
 
   abbrev pub progression_at : ℕ → Bool
   progression_at k = progression_fits (ltb k st.progressions) (eqb st.progressions 1) (change_of st k)

@@ -1,12 +1,14 @@
 -- What a survey of a table finds, with the fields of a state in range, is what soundness tests. Assumes nothing.
+use Rattle.std.specs.Prelude.{Some, None}
+use Rattle.std.proofs.lemmas.Option.{cond_some}
 use mathlib.Core.Path.{◌≡◌, refl, sym, ap, ◌∙◌}
-use mathlib.Core.Bool.{Bool, true, false, cond, ◌&&◌}
+use mathlib.Core.Bool.{Bool, true, false, cond, ◌&&◌, true≢false}
 use mathlib.Core.List.{List}
 use Prim.Native.Nat.{ℕ, ◌*◌, ◌≤◌, ◌<◌, min}
 use native.Mathlib.Omega.{arith}
 use lib.ListN.{length}
 use lib.Dec.{leb, eqb}
-use borrow.Author.Tests.{le-leb, lt-leb, leb-true, eqb-true}
+use borrow.Author.Tests.{le-leb, lt-leb, leb-true, eqb-true, eq-eqb}
 use Rattle.laws.specs.Cases.{and_true, and_false, split}
 use Rattle.laws.specs.Below.{all_below, all-at, sum_below, sum_most, max-at}
 use Rattle.types.specs.Ranges.{within, component_range}
@@ -15,20 +17,43 @@ use Rattle.packets.specs.Grid.{everywhere, grid_agreed}
 use Rattle.packets.specs.Table.{sheet_at}
 use Rattle.packets.specs.Sound.{tile_good, components_sound, progressions_sound, table_sound, reports_sound, sheet_sound}
 use Rattle.types.specs.declared.state.State.{State}
+use Rattle.types.specs.declared.state.Reports.{Reports}
 use Rattle.survey.specs.declared.Findings.{Findings}
 use Rattle.survey.specs.declared.Source.TheVariants.{Entries}
-use Rattle.survey.specs.Survey.{sheet_from, survey_good, surveyed, no_survey, survey_of}
+use Rattle.survey.proofs.Components.{cond_none}
+use Rattle.survey.specs.Capped.{capped, few_of}
+use Rattle.survey.specs.Survey.{survey_good, surveyed, survey_of}
 use Rattle.survey.specs.Sources.{survey_entries, entries-sound, prec_exact}
-use Rattle.soundness.specs.Reports.{same_reports}
+use Rattle.soundness.specs.Needs.{judged_of}
 use Rattle.soundness.proofs.InRange.{tile-counts, tile_some}
 
 -- the tests of the state's own fields
 abbrev pub fields_test : State → Bool
 fields_test st = tile_good st && (components_sound st && progressions_sound st)
 
--- the tests of what was found
-abbrev pub findings_test : State → Findings → Bool
-findings_test st f = f.good && (same_reports st f && (f.grid && f.few))
+-- reports are compared number by number
+abbrev same_reports : Reports → Reports → Bool
+same_reports a b = eqb a.max_prec b.max_prec && (eqb a.max_res b.max_res && (eqb a.dx_min b.dx_min && eqb a.dy_min b.dy_min))
+
+same_told : (a b : Reports) → same_reports a b ≡ true → a ≡ b
+same_told a b e =
+    let p = and_true (eqb a.max_prec b.max_prec) _ e in
+    let r = and_true (eqb a.max_res b.max_res) _ p.1 in
+    let d = and_true (eqb a.dx_min b.dx_min) (eqb a.dy_min b.dy_min) r.1 in
+    λ i.
+    record {
+      max_prec = eqb-true a.max_prec b.max_prec p.0 i;
+      max_res = eqb-true a.max_res b.max_res r.0 i;
+      dx_min = eqb-true a.dx_min b.dx_min d.0 i;
+      dy_min = eqb-true a.dy_min b.dy_min d.1 i;
+    }
+
+same_itself : (a : Reports) → same_reports a a ≡ true
+same_itself a = rw (eq-eqb a.max_prec _ refl, eq-eqb a.max_res _ refl, eq-eqb a.dx_min _ refl, eq-eqb a.dy_min _ refl)
+
+both_false : (a b c : Bool) → (a && c) ≡ false → (a && (b && c)) ≡ false
+both_false true b c e = rw e (and_false b)
+both_false false b c e = refl
 
 regroup : (a b c r : Bool) → (a && (b && (c && r))) ≡ ((a && (b && c)) && r)
 regroup true true c r = refl
@@ -79,13 +104,14 @@ module _ (st : State) (table : List ℕ) where
   sheet_is = regroup (tile_good st) (components_sound st) (progressions_sound st) (table_sound st table && rest)
 
   -- a state whose fields are not all in range
-  pub fields_fail : fields_test st ≡ false → false ≡ sheet_sound st table
-  fields_fail e = sym (sheet_is ∙ rw e)
+  pub fields_fail : fields_test st ≡ false → None ≡ judged_of st table
+  unfolding judged_of
+  fields_fail e = rw (sheet_is, e)
 
   -- a table that is too short
-  pub table_short : length table < 16 * sum_below (res_of st) st.components → false ≡ sheet_sound st table
-  unfolding table_sound entries_before
-  table_short h = sym (sheet_is ∙ rw (lt-leb _ _ h) (and_false (fields_test st)))
+  pub table_short : length table < 16 * sum_below (res_of st) st.components → None ≡ judged_of st table
+  unfolding judged_of table_sound entries_before
+  table_short h = rw (sheet_is, lt-leb _ _ h, and_false)
 
   -- FOUND OF A GOOD TABLE: the reports, the grid and the marks. With the reports right, the marks needed are those found
   needed-same : reports_sound s ≡ true → needed st ≡ needed (reported s)
@@ -95,19 +121,36 @@ module _ (st : State) (table : List ℕ) where
       let d = and_true (eqb st.reports.max_res (max_res st)) _ a.1 in
       λ i. st.layers * (eqb-true st.reports.max_res (max_res st) d.0 i * (st.components * eqb-true st.reports.max_prec (max_prec s) a.0 i))
 
-  found-few : fields_test st ≡ true → leb (needed (reported s)) 65536 ≡ true → findings_test st (surveyed s) ≡ rest
-  unfolding reports_sound
-  found-few fields f =
+  -- what a survey says of the marks, where it has the reports of the state
+  found_same : fields_test st ≡ true → (surveyed s).reports ≡ st.reports → few_of (needed (reported s)) ≡ cond (reports_sound s && leb (needed st) 65536) (Some (needed st)) None
+  unfolding reports_sound reported
+  found_same fields same =
+      split (leb (needed (reported s)) 65536)
+      (λ f.
       let t = tile_some st (and_true (tile_good st) _ fields).0 in
-      rw (f, prec_exact s t.0 (some_levels st fields) t.1 f)
-      (split (reports_sound s)
+      let exact : capped (max_prec s) ≡ max_prec s = prec_exact s t.0 (some_levels st fields) t.1 f in
+      let whole : (surveyed s).reports ≡ (reported s).reports = rw exact in
+      let all : reports_sound s ≡ true = ap (same_reports st.reports) (sym whole ∙ same) ∙ same_itself st.reports in
+      let n = needed-same all in
+      rw (all, n, f))
+      (λ f.
+      split (reports_sound s)
       (λ e. let n = needed-same e in rw (e, n, f))
-      (λ e. rw e))
+      (λ e. rw (e, f)))
 
-  found_many : leb (needed (reported s)) 65536 ≡ false → findings_test st (surveyed s) ≡ rest
-  found_many f =
-      let none : rest ≡ false = split (reports_sound s) (λ e. let n = needed-same e in rw (e, n, f) (and_false (grid_agreed s))) (λ e. rw e) in
-      rw (none, f) (simp and_false)
+  -- and that the reports are wrong, where it has others
+  found_other : fields_test st ≡ true → ((surveyed s).reports ≡ st.reports → ⊥) → (reports_sound s && leb (needed st) 65536) ≡ false
+  unfolding reports_sound reported
+  found_other fields other =
+      split (reports_sound s)
+      (λ e.
+      split (leb (needed (reported s)) 65536)
+      (λ f.
+      let t = tile_some st (and_true (tile_good st) _ fields).0 in
+      let exact : capped (max_prec s) ≡ max_prec s = prec_exact s t.0 (some_levels st fields) t.1 f in
+      absurd (other (rw exact (sym (same_told st.reports (reported s).reports e)))))
+      (λ f. let n = needed-same e in rw (e, n, f)))
+      (λ e. rw e)
 
   -- the survey's own test is the table's
   module _ (fields : fields_test st ≡ true) (room : 16 * sum_below (res_of st) st.components ≤ length table) where
@@ -117,24 +160,31 @@ module _ (st : State) (table : List ℕ) where
         rw (le-leb _ _ (few-components st fields), components-range st fields, le-leb _ _ room)
         (λ i. everywhere st (λ c r. entries-sound table st c r i))
 
-    pub sheet_by_lem : findings_test st (survey_of table Entries true st) ≡ sheet_sound st table
+    found_is : survey_of table Entries true st ≡ cond (table_sound st table) (Some (surveyed s)) None
     unfolding survey_of
-    sheet_by_lem = by (survey_good table Entries true st) good_is ∙ sym (sheet_is ∙ rw fields)
-      where
-        by : (t : Bool) → t ≡ table_sound st table → findings_test st (cond t (surveyed (sheet_from table Entries st)) no_survey) ≡ (table_sound st table && rest)
-        by false e = rw (← e)
-        by true e =
-            rw (← e)
-            (ap (λ (t : Sheet). findings_test st (surveyed t)) (survey_entries table st)
-            ∙ split (leb (needed (reported s)) 65536) (found-few fields) found_many)
+    found_is = rw good_is (ap (λ (t : Sheet). cond (table_sound st table) (Some (surveyed t)) None) (survey_entries table st))
 
-    -- of what is sound the marks found are those needed
-    pub needed_by : sheet_sound st table ≡ true → (survey_of table Entries true st).needed ≡ needed st
-    unfolding survey_of
-    needed_by e =
-        let a = and_true (table_sound st table) rest (and_true (fields_test st) (table_sound st table && rest) (sym sheet_is ∙ e)).1 in
-        let d = and_true (reports_sound s) _ a.1 in
-        let n = needed-same d.0 in
-        let few = (and_true (grid_agreed s) (leb (needed st) 65536) d.1).1 in
-        rw (good_is ∙ a.0)
-        (ap (λ (t : Sheet). (surveyed t).needed) (survey_entries table st) ∙ rw (← n, few))
+    judged_is : judged_of st table ≡ cond (table_sound st table && rest) (Some (needed st)) None
+    unfolding judged_of
+    judged_is = rw (sheet_is, fields)
+
+    -- nothing is found of a table that is not right
+    pub judged_none : None ≡ survey_of table Entries true st → None ≡ judged_of st table
+    judged_none h = rw (judged_is, cond_none (table_sound st table) _ (h ∙ found_is))
+
+    module _ {f : Findings} (h : Some f ≡ survey_of table Entries true st) where
+      told : (table_sound st table ≡ true) × (surveyed s ≡ f)
+      told = cond_some (table_sound st table) _ _ (sym (h ∙ found_is))
+
+      pub judged_grid : f.grid ≡ false → None ≡ judged_of st table
+      judged_grid g = let n : grid_agreed s ≡ false = ap (λ (f : Findings). f.grid) told.1 ∙ g in rw (judged_is, told.0, n, and_false)
+
+      pub judged_other : same_reports f.reports st.reports ≡ false → None ≡ judged_of st table
+      judged_other n =
+          let r = found_other fields (λ e. true≢false (sym (same_itself st.reports) ∙ rw (sym (ap (λ (f : Findings). f.reports) told.1) ∙ e) at n)) in
+          rw (judged_is, told.0, both_false (reports_sound s) (grid_agreed s) (leb (needed st) 65536) r)
+
+      pub judged-same : f.grid ≡ true → same_reports f.reports st.reports ≡ true → f.needed ≡ judged_of st table
+      judged-same g r =
+          let n : grid_agreed s ≡ true = ap (λ (f : Findings). f.grid) told.1 ∙ g in
+          rw (judged_is, told.0, n) (sym (ap (λ (f : Findings). f.needed) told.1) ∙ found_same fields (ap (λ (f : Findings). f.reports) told.1 ∙ same_told f.reports st.reports r))

@@ -2,6 +2,5 @@
 pub mod Fields
 pub mod Points
 pub mod Reached
-pub mod Reports
 pub mod Needs
 pub mod Totals

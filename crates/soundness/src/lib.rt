@@ -3,15 +3,13 @@
 
 mod fields;
 mod place;
-mod reports;
 pub mod sides;
 pub mod totals;
 
-ghost use Rattle.std.specs.Prelude.{◌≡◌, true};
+ghost use Rattle.std.specs.Prelude.{◌≡◌};
 ghost use Rattle.packets.specs.Sound as spec;
 ghost use Rattle.packets.specs.Sound.{sheet_sound, followed_sound};
-ghost use Rattle.packets.specs.Tile.{needed};
-ghost use Rattle.soundness.specs.Needs.{needs_of};
+ghost use Rattle.soundness.specs.Needs.{judged_of, needs_of};
 
 use survey::Source;
 use types::cursor::Cursor;
@@ -19,75 +17,48 @@ use types::followed::Followed;
 use types::state::State;
 use types::table::{Entry, entries};
 
-// How many marks a sound state needs.
-#[derive(Clone, Copy)]
-pub enum Needs {
-    Marks(u32),
-    Unsound,
-}
-
-// What is known of a state and its table.
-#[derive(Clone, Copy)]
-struct Known {
-    sound: bool,
-    // the marks needed, of what is sound
-    needed: u32,
-}
-
-// Every rule that setup establishes holds of a state with its table.
-fn judged(st: State, table: &[u8]) -> Known
-    ensures sound { result.sound ≡ sheet_sound st table.now }
-    ensures needed { sheet_sound st table.now ≡ true → result.needed ≡ needed st }
+// How many marks a state needs, if every rule that setup establishes holds of it with its table.
+fn judged(st: State, table: &[u8]) -> Option<u32>
+    ensures { result ≡ judged_of st table.now }
 {
-    if fields::fields_sound(st) {
-        let resolutions = st.resolutions;
-        if Entry::BYTES * entries(&resolutions, st.components as usize) <= table.len() {
-            // no words are wanted
-            let mut none = [0u32; 0];
-            let found = survey::survey(table, Source::Entries, true, st, &mut none);
-            let sound = found.good & (reports::agree(st, found) & (found.grid & found.few));
-            return Known {
-                sound,
-                needed: found.needed,
-            };
+    if !fields::fields_sound(st) {
+        return None;
+    }
+    let comps = st.comps;
+    if Entry::BYTES * entries(&comps, st.components as usize) <= table.len() {
+        // no words are wanted
+        let mut none = [0u32; 0];
+        let found = survey::survey(table, Source::Entries, true, st, &mut none)?;
+        if found.grid && found.reports == st.reports {
+            return found.needed;
         }
     }
-    Known {
-        sound: false,
-        needed: 0,
-    }
+    None
 }
 
 // A state and a table, whatever marks and cursor there are.
 pub fn sheet_sound(st: State, table: &[u8]) -> bool
     ensures { result ≡ sheet_sound st table.now }
 {
-    judged(st, table).sound
+    judged(st, table).is_some()
 }
 
-// And the marks suffice; and of the totals a viewer's own is no larger than what is needed (02, P8).
+// How many marks are needed, if state and table are sound, the marks suffice, and of the totals the viewer's own is no larger than what is needed (02, P8).
+pub fn marks_needed(f: Followed, table: &[u8], marks: &[u8], viewer: u32) -> Option<u32>
+    ensures { result ≡ needs_of f table.now marks.now viewer }
+{
+    let needed = judged(f.state, table)?;
+    if (needed as usize) <= marks.len() && f.total(viewer) <= needed {
+        return Some(needed);
+    }
+    None
+}
+
+// Whether all that holds.
 pub fn followed_sound(f: Followed, table: &[u8], marks: &[u8], viewer: u32) -> bool
     ensures { result ≡ followed_sound f table.now marks.now viewer }
 {
-    let st = f.state;
-    let known = judged(st, table);
-    known.sound & (((known.needed as usize) <= marks.len()) & (f.total(viewer) <= known.needed))
-}
-
-// And how many of them are needed.
-pub fn marks_needed(f: Followed, table: &[u8], marks: &[u8], viewer: u32) -> Needs
-    ensures { result ≡ needs_of f table.now marks.now viewer }
-{
-    let st = f.state;
-    let known = judged(st, table);
-    if known.sound {
-        if (known.needed as usize) <= marks.len() {
-            if f.total(viewer) <= known.needed {
-                return Needs::Marks(known.needed);
-            }
-        }
-    }
-    Needs::Unsound
+    marks_needed(f, table, marks, viewer).is_some()
 }
 
 // A sound state with its totals, and a cursor of a viewer in one of its progressions, at a place which that admits.
@@ -95,13 +66,11 @@ pub fn sound(f: Followed, table: &[u8], marks: &[u8], cursor: Cursor) -> bool
     ensures { result ≡ spec.sound f table.now marks.now cursor }
 {
     let st = f.state;
-    if followed_sound(f, table, marks, cursor.viewer) {
-        if cursor.viewer < Cursor::VIEWERS {
-            if cursor.progression < st.progressions {
-                let place = cursor.place;
-                return place::admitted(st, table, cursor.progression, place);
-            }
-        }
+    if followed_sound(f, table, marks, cursor.viewer)
+        && cursor.viewer < Cursor::VIEWERS
+        && cursor.progression < st.progressions
+    {
+        return place::admitted(st, table, cursor.progression, cursor.place);
     }
     false
 }

@@ -37,15 +37,10 @@ fn met(x: Line, y: Line, e: Entry, p: Position) -> bool
     requires { Counts (line_of x) (line_of y) e }
     ensures { result ≡ met_of (line_of x) (line_of y) e.width (e.width * e.height) p }
 {
-    if e.width * e.height == 0 {
-        return false;
-    }
-    if y.meets(p.y) {
-        if x.meets(p.x) {
-            let column = x.column(p.x);
-            let row = y.column(p.y);
-            return p.precno == column + row * e.width;
-        }
+    if e.width * e.height != 0 && y.meets(p.y) && x.meets(p.x) {
+        let column = x.column(p.x);
+        let row = y.column(p.y);
+        return p.precno == column + row * e.width;
     }
     false
 }
@@ -57,11 +52,8 @@ fn of_resolution(st: State, table: &[u8], order: Order, p: Position) -> bool
 {
     let sides = Sides::of(st, table, p.compno, p.resno);
     match order {
-        Order::Lrcp => counted(sides.entry, p),
-        Order::Rlcp => counted(sides.entry, p),
-        Order::Rpcl => met(sides.x, sides.y, sides.entry, p),
-        Order::Pcrl => met(sides.x, sides.y, sides.entry, p),
-        Order::Cprl => met(sides.x, sides.y, sides.entry, p),
+        Order::Lrcp | Order::Rlcp => counted(sides.entry, p),
+        Order::Rpcl | Order::Pcrl | Order::Cprl => met(sides.x, sides.y, sides.entry, p),
         Order::NoPositions => false,
     }
 }
@@ -71,15 +63,10 @@ fn listed(st: State, table: &[u8], q: Progression, p: Position) -> bool
     requires { Fit st table.now }
     ensures { result ≡ is_in p (positions_of (sheet_at st table.now) q) }
 {
-    let order = Order::of(q.prg);
     let g = Range::of(st, q);
-    if g.components_good(st) {
-        if in_range(g, p) {
-            let resolutions = st.resolutions;
-            if p.resno < resolutions[p.compno as usize] {
-                return of_resolution(st, table, order, p);
-            }
-        }
+    let comps = st.comps;
+    if g.components_good(st) && in_range(g, p) && p.resno < comps[p.compno as usize].resolutions {
+        return of_resolution(st, table, Order::of(q.prg), p);
     }
     false
 }
@@ -90,11 +77,10 @@ pub(crate) fn admitted(st: State, table: &[u8], k: u32, place: Place) -> bool
     ensures { result ≡ place_sound place (positions_for st table.now k) }
 {
     match place {
-        Place::Fresh => true,
+        Place::Fresh | Place::Ended => true,
         Place::At(p) => {
             let changes = st.changes;
             listed(st, table, changes[k as usize], p)
         }
-        Place::Ended => true,
     }
 }

@@ -21,25 +21,24 @@ impl Sides {
         ensures { result ≡ sides_of (sheet_at st table.now) c r }
     {
         let i = c as usize;
-        let resolutions = st.resolutions;
-        let before = entries(&resolutions, i);
+        let comps = st.comps;
+        let before = entries(&comps, i);
         let entry = Entry::at(table, before + (r as usize));
-        let level = resolutions[i] - 1 - r;
-        let dx = st.dx;
-        let dy = st.dy;
+        let comp = comps[i];
+        let level = comp.resolutions - 1 - r;
         Sides {
             entry,
             x: Line {
                 t0: st.tx0,
                 t1: st.tx1,
-                d: dx[i],
+                d: comp.dx,
                 level,
                 pd: entry.pdx,
             },
             y: Line {
                 t0: st.ty0,
                 t1: st.ty1,
-                d: dy[i],
+                d: comp.dy,
                 level,
                 pd: entry.pdy,
             },

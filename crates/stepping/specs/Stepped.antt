@@ -1,6 +1,6 @@
 -- What a host's calls leave (packets, Host.antt) when each packet is written as the next record: how many there are then, the marks and the output; call by call,
 -- as the code makes them. Assumes nothing.
-use Rattle.std.specs.Prelude.{◌≡◌, List, [], ◌∷◌, ◌++◌}
+use Rattle.std.specs.Prelude.{◌≡◌, List, [], ◌∷◌, ◌++◌, Result, Ok}
 use Rattle.std.proofs.Math.Path.{refl, sym, ap}
 use Rattle.std.proofs.Common.{◌∙◌, ltb-true}
 use Rattle.std.proofs.Math.Option.{Option, some, none}
@@ -23,8 +23,7 @@ use Rattle.types.specs.declared.state.State.{State}
 use Rattle.types.specs.declared.followed.Followed.{Followed}
 use Rattle.types.specs.declared.cursor.Position.{Position}
 use Rattle.types.specs.declared.cursor.Cursor.{Cursor}
-use Rattle.types.specs.declared.answer.Opened.{Opened}
-use Rattle.types.specs.declared.answer.Opened.TheVariants as opened
+use Rattle.types.specs.declared.answer.NotOpened.{NotOpened}
 use Rattle.types.specs.declared.answer.Stepped.{Stepped}
 use Rattle.types.specs.declared.answer.Stepped.TheVariants as stepped
 use Rattle.walks.specs.Records.{put_packet, put_packets}
@@ -149,7 +148,7 @@ module _ (st : State) (table marks : List ℕ) where
           ∙ written_none output n m
 
   module _ (k : ℕ) (output : List ℕ) (n : ℕ) where
-    module _ (r : Opened) (said : of_opened r ≡ open_of (uncounted st) table marks 0 k) where
+    module _ (r : Result Cursor NotOpened) (said : of_opened r ≡ open_of (uncounted st) table marks 0 k) where
       abbrev after_opened : OpenSaid → Total
       after_opened o = let t : Turn = turn_by (call_steps most_steps (uncounted st) table marks) (uncounted st) marks o.number o.cursor in written output n t.packets t.marks
 
@@ -158,9 +157,9 @@ module _ (st : State) (table marks : List ℕ) where
       opens = ap after_opened (sym said)
 
       -- a cursor is stepped on
-      pub turn_opened : (c : Cursor) → r ≡ opened.Cursor c → turned_of st table marks k output n ≡ stepped_of most_steps st table marks c output n
+      pub turn_opened : (c : Cursor) → r ≡ Ok c → turned_of st table marks k output n ≡ stepped_of most_steps st table marks c output n
       unfolding stepped_of
-      turn_opened c e = opens ∙ ap (λ (r : Opened). after_opened (of_opened r)) e
+      turn_opened c e = opens ∙ ap (λ (r : Result Cursor NotOpened). after_opened (of_opened r)) e
 
       -- none ends the turn
       pub turn_refused : (of_opened r).cursor ≡ none → turned_of st table marks k output n ≡ record { count = n; marks = marks; output = output }

@@ -11,29 +11,27 @@ ghost use Rattle.stepping.specs.Stepped.{uncounted, stepped_of, turned_of, hoste
 
 use calls::output::Output;
 use calls::setup::setup_for;
-use types::answer::{Opened, Stepped};
+use types::answer::{NotOpened, Stepped};
 use types::cursor::Cursor;
 use types::followed::Followed;
 use types::state::State;
-use words::put_four;
+use words::{Four, put_four};
 
-fn open(st: State, table: &[u8], marks: &[u8], viewer: u32, k: u32) -> Opened
+fn open(st: State, table: &[u8], marks: &[u8], viewer: u32, k: u32) -> Result<Cursor, NotOpened>
     ensures { of_opened result ≡ open_of (uncounted st) table.now marks.now viewer k }
 {
-    let f = Followed::started(st, 0);
-    calls::open::open(f, table, marks, viewer, k)
+    calls::open::open(Followed::started(st, 0), table, marks, viewer, k)
 }
 
 fn step(st: State, table: &[u8], marks: &mut [u8], cursor: Cursor) -> Stepped
     ensures says { of_stepped result ≡ (step_of (uncounted st) table.now marks.old cursor).said }
     ensures marked { marks.new ≡ (step_of (uncounted st) table.now marks.old cursor).marks }
 {
-    let f = Followed::started(st, 0);
-    let answer = calls::step::step(f, table, marks, cursor);
-    answer.said
+    calls::step::step(Followed::started(st, 0), table, marks, cursor).said
 }
 
 // Steps from a cursor until the answer is no packet, and writes each packet as the next record, with n before them; answers how many there are then.
+// kept as parameters: the definitions of specs/Stepped, which these loops mirror, have state, table, marks and output one by one
 fn step_on(
     st: State,
     table: &[u8],
@@ -48,25 +46,24 @@ fn step_on(
     let mut at = cursor;
     let mut count = n;
     // 01: at most 65,536 marks are needed, so that one step more ends a progression
-    let mut left: u32 = 65537;
-    'steps: while 0 < left {
+    for _ in 0..65537u32 {
         match step(st, table, marks, at) {
             Stepped::Packet(p, moved) => {
                 put_four(
                     output,
                     16 * (count as usize),
-                    p.layno,
-                    p.resno,
-                    p.compno,
-                    p.precno,
+                    Four {
+                        a: p.layno,
+                        b: p.resno,
+                        c: p.compno,
+                        d: p.precno,
+                    },
                 );
                 count += 1;
                 at = moved;
             }
-            Stepped::Ended(_) => return count,
-            Stepped::Unsound(_) => return count,
+            Stepped::Ended(_) | Stepped::Unsound(_) => return count,
         }
-        left -= 1;
     }
     count
 }
@@ -77,10 +74,8 @@ fn turn(st: State, table: &[u8], marks: &mut [u8], output: &mut [u8], k: u32, n:
     ensures { ◌≡◌ {A = Total} (record { count = result; marks = marks.new; output = output.new }) (turned_of st table.now marks.old k output.old n) }
 {
     match open(st, table, marks, Cursor::WHOLE_RUN, k) {
-        Opened::Cursor(cursor) => step_on(st, table, marks, output, cursor, n),
-        Opened::Unsound => n,
-        Opened::NoViewer => n,
-        Opened::NoSuch => n,
+        Ok(cursor) => step_on(st, table, marks, output, cursor, n),
+        Err(_) => n,
     }
 }
 
@@ -89,12 +84,9 @@ fn all_turns(st: State, table: &[u8], marks: &mut [u8], output: &mut [u8]) -> u3
     requires { (hosted_of st.progressions st table.now marks.old 0 output.old 0).count ≤ 65536 }
     ensures { ◌≡◌ {A = Total} (record { count = result; marks = marks.new; output = output.new }) (hosted_of st.progressions st table.now marks.old 0 output.old 0) }
 {
-    let progressions = st.progressions;
     let mut count = 0;
-    let mut k = 0;
-    'turns: while k < progressions {
+    for k in 0..st.progressions {
         count = turn(st, table, marks, output, k, count);
-        k += 1;
     }
     count
 }
@@ -112,12 +104,8 @@ pub extern "C" fn bonxigarth_stepped_run(
     ensures marked { marks.new ≡ (whole_run_of sheet.now table.old marks.old output.old).marks }
     ensures listed { output.new ≡ (whole_run_of sheet.now table.old marks.old output.old).output }
 {
-    let answer = setup_for(sheet, table, marks, Output::Records(output.len()));
-    let verdict = answer.verdict;
-    let number = verdict.number();
-    if number != 0 {
-        return number;
+    match setup_for(sheet, table, marks, Output::Records(output.len())) {
+        Ok(st) => all_turns(st, table, marks, output) as i32,
+        Err(refusal) => i32::from(refusal),
     }
-    let st = answer.state;
-    all_turns(st, table, marks, output) as i32
 }

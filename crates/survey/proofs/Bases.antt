@@ -1,5 +1,5 @@
 -- The places of exponents as the code reaches them, component after component. Assumes nothing.
-use mathlib.Core.Path.{◌≡◌, fun_ext}
+use mathlib.Core.Path.{◌≡◌, refl, fun_ext}
 use Prim.Native.Nat.{ℕ, ◌+◌, ◌*◌, ◌≤◌}
 use native.Mathlib.Nat.{mul-add, mul-one, mul-zero, mul-le-mul}
 use native.Mathlib.Omega.{arith}
@@ -17,7 +17,7 @@ unfoldable pub base_in : Places → State → ℕ → ℕ
 base_in p st c = p.first + p.between * c + p.apart * entries_before st c
 
 abbrev pub places_at : Places → State → ℕ → Places
-places_at p st c = record { first = base_in p st c; apart = p.apart; between = p.between }
+places_at p st c = record { first = base_in p st c; apart = p.apart; between = p.between; to = p.to + 4 * entries_before st c }
 
 abbrev pub place_in : Places → State → ℕ → ℕ → ℕ
 place_in p st c = exponents_at (places_at p st c)
@@ -37,7 +37,10 @@ module _ (p : Places) (st : State) where
   base_none = rw (sum_none (res_of st)) (omega (arith, mul-zero p.between, mul-zero p.apart))
 
   pub places_none : p ≡ places_at p st 0
-  places_none = λ i. record { first = base_none i; apart = p.apart; between = p.between }
+  unfolding entries_before
+  places_none =
+      let e : p.to ≡ p.to + 4 * entries_before st 0 = rw (sum_none (res_of st)) (omega arith) in
+      λ i. record { first = base_none i; apart = p.apart; between = p.between; to = e i }
 
   base_more : (c : ℕ) → base_in p st c + (p.apart * res_of st c + p.between) ≡ base_in p st (c + 1)
   unfolding base_in entries_before
@@ -46,17 +49,21 @@ module _ (p : Places) (st : State) where
       (omega (arith, mul-add p.apart (entries_before st c) (res_of st c), mul-add p.between c 1, mul-one p.between))
 
   pub places_more : (c : ℕ) → places_after (places_at p st c) (res_of st c) ≡ places_at p st (c + 1)
-  places_more c = λ i. record { first = base_more c i; apart = p.apart; between = p.between }
+  unfolding entries_before
+  places_more c =
+      let e : p.to + 4 * entries_before st c + 4 * res_of st c ≡ p.to + 4 * entries_before st (c + 1) = omega (arith, sum_more (res_of st) c) in
+      λ i. record { first = base_more c i; apart = p.apart; between = p.between; to = e i }
 
 -- they are small
 pub record Small (p : Places) : Type 0 where
   pub first : p.first ≤ 68
   pub apart : p.apart ≤ 32
   pub between : p.between ≤ 32
+  pub start : p.to ≡ 0
 
 pub places_small : (at : Source) → Small (places_of at)
-places_small Records = record { first = omega arith; apart = omega arith; between = omega arith }
-places_small Entries = record { first = omega arith; apart = omega arith; between = omega arith }
+places_small Records = record { first = omega arith; apart = omega arith; between = omega arith; start = refl }
+places_small Entries = record { first = omega arith; apart = omega arith; between = omega arith; start = refl }
 
 pub apart-small : (p : Places) (n : ℕ) → Small p → n ≤ 33 → p.apart * n ≤ 32 * 33
 apart-small p n s h = mul-le-mul s.apart h

@@ -1,27 +1,23 @@
 -- What a survey keeps, by what the pass over the components finds. Assumes nothing.
-use mathlib.Core.Path.{◌≡◌, refl, sym, ◌∙◌}
-use mathlib.Core.Bool.{Bool, true, false}
-use mathlib.Core.List.{List}
-use Prim.Native.Nat.{ℕ}
-use lib.ListN.{length, replicate}
-use Rattle.laws.specs.Cases.{cond-told}
+use Rattle.std.specs.Prelude.{◌≡◌, Bool, true, false, List, ℕ, length, replicate, Option, Some, None, is_some}
+use Rattle.std.proofs.Common.{sym}
+use Rattle.std.proofs.lemmas.Option.{cond_some}
 use Rattle.packets.specs.Table.{table_words}
 use Rattle.types.specs.declared.state.State.{State}
-use Rattle.survey.specs.Survey.{sheet_from, survey_good, no_survey, surveyed, survey_of, kept_of}
-use Rattle.survey.specs.Put.{put_numbers}
+use Rattle.survey.specs.Survey.{sheet_from, survey_good, survey_of, kept_of}
+use Rattle.survey.specs.Kept.{Keeps}
 use Rattle.survey.specs.declared.Source.{Source}
 use Rattle.survey.specs.declared.Findings.{Findings}
+use Rattle.survey.proofs.Components.{cond_none}
 
 module _ (e : List ℕ) (at : Source) (check : Bool) (st : State) (old : List ℕ) where
-  good_is : (survey_of e at check st).good ≡ survey_good e at check st
-  unfolding survey_of
-  good_is = cond-told (λ (f : Findings). f.good) (survey_good e at check st) (surveyed (sheet_from e at st)) no_survey refl refl
+  pub bad_kept : (o : Option Findings) → o ≡ survey_of e at check st → is_some o ≡ false → replicate (length old) 0 ≡ kept_of e at check st old
+  unfolding kept_of survey_of
+  bad_kept None h t = rw (cond_none (survey_good e at check st) _ h)
+  bad_kept (Some f) h t = cc
 
-  module _ {f : Findings} (found : f ≡ survey_of e at check st) where
-    pub bad_kept : f.good ≡ false → replicate (length old) 0 ≡ kept_of e at check st old
-    unfolding kept_of
-    bad_kept g = let t : survey_good e at check st ≡ false = sym good_is ∙ rw found at g in rw t
-
-    pub good-kept : f.good ≡ true → put_numbers old 0 (table_words (sheet_from e at st)) ≡ kept_of e at check st old
-    unfolding kept_of
-    good-kept g = let t : survey_good e at check st ≡ true = sym good_is ∙ rw found at g in rw t
+  pub good-kept : (o : Option Findings) → o ≡ survey_of e at check st → is_some o ≡ true → {new : List ℕ}
+      → Keeps old new 0 o (table_words (sheet_from e at st)) → new ≡ kept_of e at check st old
+  unfolding kept_of survey_of
+  good-kept None h t k = cc
+  good-kept (Some f) h t k = rw (cond_some (survey_good e at check st) _ _ (sym h)).0 k

@@ -1,44 +1,53 @@
--- A resolution by what the axis answers, what is held after r resolutions of a component, its next turn (one resolution more, or nothing), and the sums that the
+-- What is held after r resolutions of a component, its next turn (one resolution more, or nothing), and the sums that the
 -- exponents of all tell. Assumes nothing.
-use mathlib.Core.Path.{◌≡◌, refl, sym, ap, ◌∙◌}
+use Rattle.std.specs.Prelude.{cond, Some, None}
+use Rattle.std.proofs.lemmas.Option.{cond_some}
+use mathlib.Core.Path.{◌≡◌, refl, sym, ap}
 use mathlib.Core.Bool.{Bool, true, false}
 use mathlib.Core.List.{List}
 use Prim.Native.Nat.{ℕ, ◌+◌, ◌-◌, ◌*◌, ◌^◌, ◌≤◌, ◌<◌, min}
 use native.Mathlib.Nat.{mul-add, mul-one, mul-zero, mul-le-mul_left}
 use native.Mathlib.Omega.{arith}
 use lib.Dec.{leb}
-use Rattle.laws.specs.Cases.{cond-told}
+use borrow.Author.Tests.{leb-true}
+use Rattle.laws.specs.Cases.{and_true}
+use Rattle.types.specs.Ranges.{exponent_range}
 use Rattle.laws.specs.Below.{all_below, all_none, all_more, all_fails, max_below, max_none, max_more, min_below, min_none, min_more}
 use Rattle.laws.specs.Extremes.{all-and, min_grown, all_grown, shifted_grows}
 use Rattle.words.specs.Words.{word_at}
-use Rattle.geometry.specs.Axis.{resolution_of, columns_of}
-use Rattle.geometry.specs.declared.axis.Axis.{Axis}
-use Rattle.geometry.specs.declared.axis.Columns.{Columns}
-use Rattle.geometry.specs.declared.axis.Resolution.{Resolution}
-use Rattle.types.specs.Ranges.{exponent_range}
+use Rattle.types.specs.declared.table.Entry.{Entry}
 use Rattle.survey.specs.Capped.{capped-max}
-use Rattle.survey.specs.Passing.{count_of, start_gathered, no_gathered, no_sums, with_entry, sums_of, entry_from, entry_fine, entry_gathered, exponent_at, gathered_to, passed, resolution_sums, exponents_at}
+use Rattle.survey.specs.Passing.{start_gathered, with_entry, sums_of, entry_from, entry_fine, entry_found, exponent_at, gathered_to, passed, resolution_sums, exponents_at}
 use Rattle.survey.specs.declared.places.Places.{Places}
 use Rattle.survey.specs.declared.axes.Axes.{Axes}
 use Rattle.survey.specs.declared.gathered.Gathered.{Gathered}
+use Rattle.survey.specs.Kept.{words_of, resolution_words}
+use Rattle.survey.specs.Put.{put_numbers}
+use Rattle.survey.proofs.Keeping.{words_more}
 
--- the axis answers a resolution's precincts
-pub count_by : (a : Axis) (level pd : ℕ) {r : Resolution} {k : Columns} → r ≡ resolution_of a level → k ≡ columns_of r pd → k.count ≡ count_of a level pd
-count_by a level pd h e = ap (λ (k : Columns). k.count) (e ∙ ap (λ (r : Resolution). columns_of r pd) h)
+-- a choice that gives nothing has failed its test
+pub cond_none : {A : Type 0} (t : Bool) (x : A) → None ≡ cond t (Some x) None → t ≡ false
+cond_none true x e = cc
+cond_none false x e = refl
 
--- what is gathered with a resolution, by what is tested of it
+-- what is found of a resolution tells whether it is good
 module _ (e : List ℕ) (p : ℕ) (check : Bool) (a : Axes) (level : ℕ) where
-  pub out_of_range : exponent_range (word_at e p) (word_at e (p + 4)) ≡ false → entry_fine e p check a level ≡ false
-  unfolding entry_fine
-  out_of_range h = rw h
+  fine_told : {x : Entry} → Some x ≡ entry_found e p check a level → (entry_fine e p check a level ≡ true) × (entry_from e p a level ≡ x)
+  unfolding entry_found
+  fine_told h = cond_some (entry_fine e p check a level) _ _ (sym h)
 
-  pub entry_bad : (g : Gathered) → entry_fine e p check a level ≡ false → entry_gathered e p check a level g ≡ no_gathered
-  unfolding entry_gathered
-  entry_bad g h = rw h
+  bad_told : None ≡ entry_found e p check a level → entry_fine e p check a level ≡ false
+  unfolding entry_found
+  bad_told h = cond_none (entry_fine e p check a level) _ h
 
-  pub entry-good : (g : Gathered) → entry_fine e p check a level ≡ true → entry_gathered e p check a level g ≡ with_entry g level (entry_from e p a level)
-  unfolding entry_gathered
-  entry-good g h = rw h
+-- and has exponents in range
+pub ranged_entry : (e : List ℕ) (p : ℕ) (check : Bool) (a : Axes) (level : ℕ) (x : Entry) → Some x ≡ entry_found e p check a level → (x.pdx < 16) × (x.pdy < 16)
+unfolding entry_fine
+ranged_entry e p check a level x h =
+    let f = fine_told e p check a level h in
+    let r = and_true (exponent_range (word_at e p) (word_at e (p + 4))) _ f.0 in
+    let b = and_true (leb (word_at e p) 15) (leb (word_at e (p + 4)) 15) r.0 in
+    rw (← f.1) (omega (arith, leb-true (word_at e p) 15 b.0), omega (arith, leb-true (word_at e (p + 4)) 15 b.1))
 
 -- the place of the next resolution
 place_next : (p : Places) (r : ℕ) → exponents_at p r + p.apart ≡ exponents_at p (r + 1)
@@ -83,26 +92,28 @@ taken_none e p check a n =
 
 module _ {e : List ℕ} {p : Places} {check : Bool} {a : Axes} {n at : ℕ} {g : Gathered} {r : ℕ} (k : Taken e p check a n at g r) where
   -- with the next
-  module _ {t : Gathered} (is : t ≡ entry_gathered e at check a (n - 1 - r) g) where
-    good_is : t.good ≡ entry_fine e (exponents_at p r) check a (n - 1 - r)
-    unfolding entry_gathered
-    good_is = rw (is, k.there) (cond-told (λ (s : Gathered). s.good) (entry_fine e (exponents_at p r) check a (n - 1 - r)) _ no_gathered refl refl)
+  pub taken_more : {x : Entry} → Some x ≡ entry_found e at check a (n - 1 - r) → Taken e p check a n (at + p.apart) (with_entry g (n - 1 - r) x) (r + 1)
+  unfolding gathered_to
+  taken_more h =
+      let f = fine_told e at check a (n - 1 - r) h in
+      record {
+        there = rw k.there (place_next p r);
+        held = rw (← f.1, k.there, k.held, capped-max) (simp (max_more, min_more));
+        fine = all_more _ r k.fine (rw k.there at f.0);
+      }
 
-    pub taken_more : t.good ≡ true → Taken e p check a n (at + p.apart) t (r + 1)
-    unfolding entry_gathered gathered_to
-    taken_more h =
-        let f : entry_fine e (exponents_at p r) check a (n - 1 - r) ≡ true = sym good_is ∙ h in
-        record {
-          there = rw k.there (place_next p r);
-          held = rw (is, k.there, f, k.held, capped-max) (simp (max_more, min_more));
-          fine = all_more _ r k.fine f;
-        }
-
-    pub taken_bad : r < n → t.good ≡ false → resolution_sums e (exponents_at p) check a n ≡ no_sums
-    unfolding resolution_sums
-    taken_bad l h = rw (all_fails (λ i. entry_fine e (exponents_at p i) check a (n - 1 - i)) n r l (sym good_is ∙ h))
+  pub taken_bad : r < n → None ≡ entry_found e at check a (n - 1 - r) → None ≡ resolution_sums e (exponents_at p) check a n
+  unfolding resolution_sums
+  taken_bad l h =
+      rw (all_fails (λ i. entry_fine e (exponents_at p i) check a (n - 1 - i)) n r l (rw k.there at (bad_told e at check a (n - 1 - r) h)))
 
   -- and of all, on axes with steps above 0
-  pub taken-all : Stepped a → r ≡ n → sums_of a g ≡ resolution_sums e (exponents_at p) check a n
+  pub taken-all : Stepped a → r ≡ n → Some (sums_of a g) ≡ resolution_sums e (exponents_at p) check a n
   unfolding resolution_sums
-  taken-all s h = rw (rw h at k.fine, rw h at k.held) (gathered_sums e (exponents_at p) a n s)
+  taken-all s h = rw (rw h at k.fine, rw h at k.held) (ap Some (gathered_sums e (exponents_at p) a n s))
+
+  -- its words are written after those before
+  pub words_taken : {x : Entry} → Some x ≡ entry_found e at check a (n - 1 - r) → (old : List ℕ) {kept : List ℕ} (to : ℕ)
+      → kept ≡ put_numbers old to (resolution_words e (exponents_at p) a n r)
+      → put_numbers kept (to + 4 * r) (words_of x) ≡ put_numbers old to (resolution_words e (exponents_at p) a n (r + 1))
+  words_taken h old {kept} to w = rw (w, ← (fine_told e at check a (n - 1 - r) h).1, k.there) (words_more e (exponents_at p) a n old to r)

@@ -1,7 +1,8 @@
 -- The survey over any places: the exponents of resolution r of component c stand at q c r. With the places of a source it is the survey of that source.
 -- A component's sums are what the sheet has of it. Assumes nothing.
 use mathlib.Core.Path.{◌≡◌, refl, subst, ap}
-use mathlib.Core.Bool.{Bool, true, cond, ◌&&◌, ◌||◌, not}
+use mathlib.Core.Bool.{Bool, cond, ◌&&◌, ◌||◌, not}
+use Rattle.std.specs.Prelude.{Option, Some, None}
 use mathlib.Core.List.{List}
 use Prim.Native.Nat.{ℕ, ◌+◌, ◌*◌}
 use lib.Dec.{leb, eqb}
@@ -17,8 +18,8 @@ use Rattle.packets.specs.Tile.{Sheet, dx_of, dy_of, res_of, width, height, preci
 use Rattle.packets.specs.Grid.{everywhere, step_x, step_y}
 use Rattle.types.specs.declared.state.State.{State}
 use Rattle.survey.specs.Capped.{capped, capped-max}
-use Rattle.survey.specs.Survey.{place_of, survey_good, surveyed, no_survey, survey_of}
-use Rattle.survey.specs.Passing.{start_sums, no_sums, joined_sums, entry_fine, passed, resolution_sums, component_sums}
+use Rattle.survey.specs.Survey.{place_of, survey_good, surveyed, survey_of}
+use Rattle.survey.specs.Passing.{fits_32, start_sums, joined_sums, entry_fine, passed, resolution_sums, component_sums}
 use Rattle.survey.specs.declared.Source.{Source}
 use Rattle.survey.specs.declared.Findings.{Findings}
 use Rattle.survey.specs.declared.sums.Sums.{Sums}
@@ -42,8 +43,8 @@ fine_at e q st check c = all_below (entry_over e q st check c) (res_of st c)
 unfoldable pub good_over : List ℕ → (ℕ → ℕ → ℕ) → Bool → State → Bool
 good_over e q check st = leb st.components 16 && (all_below (ranged_at st) st.components && everywhere st (entry_over e q st check))
 
-unfoldable pub found_over : List ℕ → (ℕ → ℕ → ℕ) → Bool → State → Findings
-found_over e q check st = cond (good_over e q check st) (surveyed (sheet_over e q st)) no_survey
+unfoldable pub found_over : List ℕ → (ℕ → ℕ → ℕ) → Bool → State → Option Findings
+found_over e q check st = cond (good_over e q check st) (Some (surveyed (sheet_over e q st))) None
 
 pub survey_over : (e : List ℕ) (at : Source) (check : Bool) (st : State) (q : ℕ → ℕ → ℕ) → place_of at st ≡ q → survey_of e at check st ≡ found_over e q check st
 unfolding survey_of survey_good found_over good_over
@@ -55,7 +56,7 @@ tile_of st = record { x0 = st.tx0; y0 = st.ty0; x1 = st.tx1; y1 = st.ty1 }
 
 -- the steps on both axes fit
 abbrev step_fits : Sheet → ℕ → ℕ → Bool
-step_fits s c r = leb (step_x s c r) 4294967295 && leb (step_y s c r) 4294967295
+step_fits s c r = fits_32 (step_x s c r) && fits_32 (step_y s c r)
 
 -- those of a component
 abbrev pub fits_in : Sheet → ℕ → Bool
@@ -69,7 +70,6 @@ least_in f st c = min_below 4294967295 (f c) (res_of st c)
 abbrev pub part_sums : Sheet → ℕ → Sums
 part_sums s c =
     record {
-      good = true;
       most = capped (max_below (precincts s c) (res_of s.st c));
       fit = fits_in s c;
       x_least = least_in (step_x s) s.st c;
@@ -79,7 +79,6 @@ part_sums s c =
 unfoldable pub sums_to : Sheet → ℕ → Sums
 sums_to s k =
     record {
-      good = true;
       most = capped (max_below (λ c. max_below (precincts s c) (res_of s.st c)) k);
       fit = all_below (fits_in s) k;
       x_least = min_below 4294967295 (least_in (step_x s) s.st) k;
@@ -98,20 +97,20 @@ sums_more s c =
 -- what the pass over a component gives
 pub component_is : (e : List ℕ) (q : ℕ → ℕ → ℕ) (check : Bool) (st : State) (c : ℕ)
     → component_sums e (q c) check (tile_of st) (dx_of st c) (dy_of st c) (res_of st c)
-    ≡ cond (ranged_at st c) (cond (fine_at e q st check c) (part_sums (sheet_over e q st) c) no_sums) no_sums
+    ≡ cond (ranged_at st c) (cond (fine_at e q st check c) (Some (part_sums (sheet_over e q st) c)) None) None
 unfolding component_sums resolution_sums passed entry_fine columns_of count bound_of
 component_is e q check st c =
     ap
     (λ (m : ℕ).
     cond (ranged_at st c)
     (cond (fine_at e q st check c)
+    (Some
     (record {
-      good = true;
       most = capped m;
       fit = fits_in (sheet_over e q st) c;
       x_least = least_in (step_x (sheet_over e q st)) st c;
       y_least = least_in (step_y (sheet_over e q st)) st c;
-    })
-    no_sums)
-    no_sums)
+    }))
+    None)
+    None)
     (max-same (λ r. width (sheet_over e q st) c r * height (sheet_over e q st) c r) (precincts (sheet_over e q st) c) (res_of st c) (λ r h. rw (lt-ltb r (res_of st c) h)))

@@ -1,12 +1,10 @@
 -- The steps of all resolutions on one axis: d c · 2^(k c r), for resolution r of component c. Within a component the smallest divides every other, so that
 -- one number a component shows whether the smallest of all divides all. Assumes nothing.
 use mathlib.Core.Path.{◌≡◌, refl, ◌∙◌}
-use mathlib.Core.List.{List}
 use mathlib.Core.Logic.{⊎_elim}
 use Prim.Native.Nat.{ℕ, zero, suc, ◌*◌, ◌%◌, ◌^◌, ◌≤◌, ◌<◌, min}
 use native.Mathlib.Nat.{mul-pos, dvd_trans, dvd_of_mod-eq-zero, mod-eq-zero_of_dvd}
 use native.Mathlib.Omega.{arith}
-use lib.ListN.{get_or}
 use lib.Dec.{eqb}
 use lib.Pow.{pow_pos}
 use borrow.Author.Tests.{eqb-true, eq-eqb, le-leb, lt-leb}
@@ -18,7 +16,6 @@ use Rattle.laws.specs.Extremes.{same_tests, min_restart, shifted_multiple}
 use Rattle.packets.specs.Tile.{res_of, fitting}
 use Rattle.packets.specs.Grid.{everywhere, smallest_of, smallest}
 use Rattle.types.specs.declared.state.State.{State}
-use Rattle.survey.specs.Passing.{multiples}
 use Rattle.survey.proofs.Over.{least_in}
 
 -- a multiple of a multiple
@@ -70,10 +67,9 @@ module _ (st : State) (d : ℕ → ℕ) (k : ℕ → ℕ → ℕ) where
             eq-eqb (least_in step_of st c % x) 0 (rw (← (least_is c h)) (min-has (step_of c 0) (step_of c) (λ m. m % x ≡ 0) (each 0 (some c h)) (res_of st c) each)))
             (λ t. all_true _ (res_of st c) (λ r l. eq-eqb _ 0 (multiple_of (step_of c r) (least_in step_of st c) x (eqb-true _ 0 t) (least_divides c h r l))))
 
-        pub divide_is : (xs : List ℕ) → ((c : ℕ) → c < st.components → get_or xs c 0 ≡ least_in step_of st c)
-            → everywhere st (λ c r. eqb (step_of c r % smallest step_of st) 0) ≡ multiples xs st.components least_of
-        unfolding multiples
-        divide_is xs h =
+        pub divide_is : (f : ℕ → ℕ) → ((c : ℕ) → c < st.components → f c ≡ least_in step_of st c)
+            → everywhere st (λ c r. eqb (step_of c r % smallest step_of st) 0) ≡ all_below (λ c. eqb (f c % least_of) 0) st.components
+        divide_is f h =
             ⊎_elim
             (λ (z : st.components ≤ 0). let e : st.components ≡ 0 = omega arith in rw (e, all_none, all_none))
             (λ (z : 0 < st.components).

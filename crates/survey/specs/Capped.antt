@@ -1,11 +1,15 @@
 -- A number as far as it matters: more than 65,536 marks are too many, whatever their number (01, -5), and so are more precincts. Assumes nothing.
-use Rattle.std.specs.Prelude.{ℕ, zero, suc, ◌*◌, ◌≤◌, ◌<◌, min, max, ◌≡◌, cond, leb}
-use Rattle.std.proofs.Common.{⊎_elim, zero-mul, suc-mul, arith, le-leb}
+use Rattle.std.specs.Prelude.{ℕ, zero, suc, ◌*◌, ◌≤◌, ◌<◌, min, max, ◌≡◌, cond, Option, Some, None, leb}
+use Rattle.std.proofs.Common.{⊎_elim, zero-mul, suc-mul, arith}
 use Rattle.std.proofs.lemmas.Bool.{lt-leb}
 use Rattle.laws.specs.Cases.{le_or_lt}
 
 abbrev pub capped : ℕ → ℕ
 capped n = min n 65537
+
+-- one that is few
+abbrev pub few_of : ℕ → Option ℕ
+few_of n = cond (leb n 65536) (Some n) None
 
 -- the larger of two
 pub capped-max : (a b : ℕ) → max (capped a) (capped b) ≡ capped (max a b)
@@ -22,16 +26,9 @@ capped_factor (suc a) b =
 
 -- numbers that are cut off to the same are few together, and the same where they are few
 module _ (m n : ℕ) (same : capped m ≡ capped n) where
-  pub same-few : leb m 65536 ≡ leb n 65536
+  pub same-few : few_of m ≡ few_of n
   same-few =
       ⊎_elim
-      (λ (h : n ≤ 65536). let k : m ≤ 65536 = omega arith in rw (le-leb _ _ h, le-leb _ _ k))
-      (λ (h : 65536 < n). let k : 65536 < m = omega arith in rw (lt-leb _ _ h, lt-leb _ _ k))
-      (le_or_lt n 65536)
-
-  pub same-number : cond (leb m 65536) m 0 ≡ cond (leb n 65536) n 0
-  same-number =
-      ⊎_elim
       (λ (h : n ≤ 65536). let e : m ≡ n = omega arith in rw e)
-      (λ (h : 65536 < n). rw (same-few, lt-leb _ _ h))
+      (λ (h : 65536 < n). let k : 65536 < m = omega arith in rw (lt-leb _ _ h, lt-leb _ _ k))
       (le_or_lt n 65536)

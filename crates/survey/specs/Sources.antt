@@ -3,7 +3,8 @@
 use Rattle.std.specs.Prelude.{◌≡◌, Bool, ◌&&◌, length, eqb}
 use Rattle.std.proofs.Math.Path.{refl, fun_ext}
 use Rattle.std.proofs.Common.{ap, ◌∙◌, le-mul_of_pos_right, mul_comm}
-use Rattle.std.proofs.Math.Bool.{true, false, cond}
+use Rattle.std.proofs.Math.Bool.{true, false}
+use Rattle.std.specs.Prelude.{Some}
 use mathlib.Core.List.{List, [], ◌∷◌}
 use Prim.Native.Nat.{ℕ, zero, suc, ◌+◌, ◌*◌, ◌≤◌, ◌<◌}
 use native.Mathlib.Omega.{arith}
@@ -28,7 +29,7 @@ use Rattle.types.specs.declared.state.State.{State}
 use Rattle.survey.specs.declared.Source.{Source}
 use Rattle.survey.specs.declared.Source.TheVariants.{Records, Entries}
 use Rattle.survey.specs.Survey.{place_of, sheet_from, entry_good, survey_good, surveyed, survey_of, kept_of}
-use Rattle.survey.specs.Capped.{capped}
+use Rattle.survey.specs.Capped.{capped, few_of}
 use Rattle.survey.specs.Put.{put-over}
 use Rattle.survey.specs.Ranges.{in_range_lem}
 
@@ -88,7 +89,7 @@ module _ (b : List ℕ) where
   unfolding fields_of
   survey_records =
       record {
-        resolutions = refl;
+        resolutions = λ c. refl;
         components = refl;
         same_x = λ c r h k. λ i. record { t0 = there.st.tx0; t1 = there.st.tx1; d = dx_of there.st c; level = level_of there.st c r; pd = record_x c r h i };
         same_y = λ c r h k. λ i. record { t0 = there.st.ty0; t1 = there.st.ty1; d = dy_of there.st c; level = level_of there.st c r; pd = record_y c r h i };
@@ -120,7 +121,7 @@ module _ (b : List ℕ) where
     res_above c h = (in_range_lem (dx_of (fields_of b) c) (dy_of (fields_of b) c) (res_of (fields_of b) c) (component-range b read c h)).n_low
 
     -- so its survey finds what is found of the sheet
-    pub records_survey : survey_of b Records false (fields_of b) ≡ surveyed (sheet_in b)
+    pub records_survey : survey_of b Records false (fields_of b) ≡ Some (surveyed (sheet_in b))
     unfolding survey_of needed reported fields_of
     records_survey =
         let prec : max_prec there ≡ max_prec (sheet_in b) = max_prec-same there (sheet_in b) survey_records in
@@ -130,16 +131,12 @@ module _ (b : List ℕ) where
         let marks : ℕ → ℕ = λ p. (fields_of b).layers * (max_res (fields_of b) * ((fields_of b).components * p)) in
         rw records_good
         (λ i.
-        record {
-          good = true;
+        Some
+        (record {
           grid = grid i;
-          few = leb (marks (prec i)) 65536;
-          needed = cond (leb (marks (prec i)) 65536) (marks (prec i)) 0;
-          max_prec = cond (leb (marks (prec i)) 65536) (capped (prec i)) 0;
-          max_res = max_res (fields_of b);
-          dx_min = x i;
-          dy_min = y i;
-        })
+          needed = few_of (marks (prec i));
+          reports = record { max_prec = capped (prec i); max_res = max_res (fields_of b); dx_min = x i; dy_min = y i };
+        }))
 
     -- and what it keeps is the sheet's table
     same-entry : (c r : ℕ) → c < wd b 0 6 → r < res_of (fields_of b) c → entry there c r ≡ entry (sheet_in b) c r

@@ -1,5 +1,5 @@
 -- What setup and soundness have in common: the numbers that a state and its precinct exponents give, wherever the exponents stand.
-use Rattle.std.specs.Prelude.{ℕ, ◌+◌, ◌*◌, Bool, true, false, cond, ◌&&◌, ◌||◌, not, List, length, replicate, leb, eqb}
+use Rattle.std.specs.Prelude.{ℕ, ◌+◌, ◌*◌, Bool, cond, ◌&&◌, ◌||◌, not, Option, Some, None, List, length, replicate, leb, eqb}
 use Rattle.laws.specs.Below.{all_below}
 use Rattle.words.specs.Words.{word_at}
 use Rattle.types.specs.Ranges.{component_range, exponent_range}
@@ -10,7 +10,7 @@ use Rattle.types.specs.declared.state.State.{State}
 use Rattle.survey.specs.declared.Source.{Source}
 use Rattle.survey.specs.declared.Source.TheVariants.{Records, Entries}
 use Rattle.survey.specs.declared.Findings.{Findings}
-use Rattle.survey.specs.Capped.{capped}
+use Rattle.survey.specs.Capped.{capped, few_of}
 use Rattle.survey.specs.Put.{put_numbers}
 
 -- where the exponents of resolution r of component c stand: after the kind in its record of a sheet, or in its entry of a table
@@ -37,27 +37,19 @@ survey_good e at check st =
     leb st.components 16
     && (all_below (λ c. component_range (dx_of st c) (dy_of st c) (res_of st c)) st.components && everywhere st (entry_good e at check st))
 
--- nothing is known of what is out of range
-abbrev pub no_survey : Findings
-no_survey = record { good = false; grid = false; few = false; needed = 0; max_prec = 0; max_res = 0; dx_min = 0; dy_min = 0 }
-
--- the reports, whether the grid is agreed for every progression, and the marks needed, if they are at most 65,536 (else 0, and no precinct count; with 0
--- layers any number of precincts takes 0 marks, so that their count is cut off)
+-- whether the grid is agreed for every progression, the marks needed, if they are at most 65,536, and the reports (with 0 layers any number of precincts takes
+-- 0 marks, so that their count is cut off)
 abbrev pub surveyed : Sheet → Findings
 surveyed s =
     record {
-      good = true;
       grid = grid_agreed s;
-      few = leb (needed (reported s)) 65536;
-      needed = cond (leb (needed (reported s)) 65536) (needed (reported s)) 0;
-      max_prec = cond (leb (needed (reported s)) 65536) (capped (max_prec s)) 0;
-      max_res = max_res s.st;
-      dx_min = dx_min s;
-      dy_min = dy_min s;
+      needed = few_of (needed (reported s));
+      reports = record { max_prec = capped (max_prec s); max_res = max_res s.st; dx_min = dx_min s; dy_min = dy_min s };
     }
 
-unfoldable pub survey_of : List ℕ → Source → Bool → State → Findings
-survey_of e at check st = cond (survey_good e at check st) (surveyed (sheet_from e at st)) no_survey
+-- of what is out of range nothing is found
+unfoldable pub survey_of : List ℕ → Source → Bool → State → Option Findings
+survey_of e at check st = cond (survey_good e at check st) (Some (surveyed (sheet_from e at st))) None
 
 -- what is kept: the words of the table from the start on, as far as there is room; where a range does not hold, zeros
 unfoldable pub kept_of : List ℕ → Source → Bool → State → List ℕ → List ℕ

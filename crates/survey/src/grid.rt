@@ -1,58 +1,55 @@
 // Whether the grid is agreed (01, 'Agreed grid', and 02, P5 and P6): what the progressions want of the steps, and whether the steps have it.
 ghost use Rattle.std.specs.Prelude.{◌≡◌, ◌≤◌, ◌<◌};
-ghost use Rattle.survey.specs.Passing.{want_of_all, want_of, most_wanted, multiples, fit_between, range_fits, ranges_fit, agreed_of};
+ghost use Rattle.survey.specs.Passing.{want_of, most_wanted, multiples, fit_between, range_fits, ranges_fit, agreed_of};
 
-use geometry::math;
+use crate::sums::Sums;
 use types::order::{Order, Range};
 use types::state::{Progression, State};
 
-// What an order wants that goes over all components at each point.
-fn want_of_all(kind: u32) -> u32
-    ensures { result ≡ want_of_all kind }
-{
-    if kind == Progression::MIXED { 2 } else { 3 }
+// What a progression wants of the steps, from the least to the most.
+#[derive(Clone, Copy, PartialEq, Eq, PartialOrd, Ord)]
+pub(crate) enum Want {
+    Nothing,
+    // those of the components in its range fit 32 bits
+    OwnFit,
+    // those of all components do
+    AllFit,
+    // and the smallest divides every other
+    Multiples,
 }
 
-// What a progression wants of the steps. 1: those of the components in its range fit 32 bits; 2: those of all components do; 3: and the smallest divides every
-// other.
-fn want(kind: u32, order: Order) -> u32
+// What a progression wants; one of RPCL or PCRL goes over all components at each point.
+fn wants(kind: u32, order: Order) -> Want
     ensures { result ≡ want_of kind order }
 {
     match order {
-        Order::Lrcp => 0,
-        Order::Rlcp => 0,
-        Order::Rpcl => want_of_all(kind),
-        Order::Pcrl => want_of_all(kind),
-        Order::Cprl => 1,
-        Order::NoPositions => 0,
+        Order::Rpcl | Order::Pcrl if kind == Progression::MIXED => Want::AllFit,
+        Order::Rpcl | Order::Pcrl => Want::Multiples,
+        Order::Cprl => Want::OwnFit,
+        Order::Lrcp | Order::Rlcp | Order::NoPositions => Want::Nothing,
     }
 }
 
 // The most that a progression of st wants.
-fn most_wanted(st: State) -> u32
+fn most_wanted(st: State) -> Want
     ensures { result ≡ most_wanted st }
 {
-    let n = math::uint_min(st.progressions, State::MAX_PROGRESSIONS) as usize;
-    let mut most: u32 = 0;
-    let mut k: usize = 0;
-    while k < n {
-        let p = st.changes[k];
-        most = math::uint_max(most, want(p.kind, Order::of(p.prg)));
-        k += 1;
+    let n = st.progressions.min(State::MAX_PROGRESSIONS) as usize;
+    let mut most = Want::Nothing;
+    for p in &st.changes[..n] {
+        most = most.max(wants(p.kind, Order::of(p.prg)));
     }
     most
 }
 
-// The first n numbers are multiples of m.
-fn all_multiples(numbers: &[u32; State::COMPONENT_PLACES], n: usize, m: u32) -> bool
-    requires { (n ≤ 16) × (0 < m) }
-    ensures { result ≡ multiples numbers.now n m }
+// The smallest steps of the first n components are multiples of those of all.
+fn multiples(parts: &[Sums; State::COMPONENT_PLACES], n: usize, all: Sums) -> bool
+    requires { (n ≤ 16) × (0 < all.x_least) × (0 < all.y_least) }
+    ensures { result ≡ multiples parts.now n all }
 {
-    let mut c: usize = 0;
-    while c < n {
-        if numbers[c] % m == 0 {
-            c += 1;
-        } else {
+    for p in &parts[..n] {
+        let divided = (p.x_least % all.x_least == 0) & (p.y_least % all.y_least == 0);
+        if !divided {
             return false;
         }
     }
@@ -60,15 +57,12 @@ fn all_multiples(numbers: &[u32; State::COMPONENT_PLACES], n: usize, m: u32) -> 
 }
 
 // The components from c0 up to c1 have steps that fit.
-fn fit_between(fits: &[bool; State::COMPONENT_PLACES], c0: usize, c1: usize) -> bool
+fn fit_between(parts: &[Sums; State::COMPONENT_PLACES], c0: usize, c1: usize) -> bool
     requires { c1 ≤ 16 }
-    ensures { result ≡ fit_between fits.now c0 c1 }
+    ensures { result ≡ fit_between parts.now c0 c1 }
 {
-    let mut c = c0;
-    while c < c1 {
-        if fits[c] {
-            c += 1;
-        } else {
+    for c in c0..c1 {
+        if !parts[c].fit {
             return false;
         }
     }
@@ -76,67 +70,42 @@ fn fit_between(fits: &[bool; State::COMPONENT_PLACES], c0: usize, c1: usize) -> 
 }
 
 // Those in the range of progression q have, where it wants it.
-fn range_fits(st: State, q: Progression, fits: &[bool; State::COMPONENT_PLACES]) -> bool
+fn range_fits(st: State, q: Progression, parts: &[Sums; State::COMPONENT_PLACES]) -> bool
     requires { st.components ≤ 16 }
-    ensures { result ≡ range_fits st fits.now q }
+    ensures { result ≡ range_fits st parts.now q }
 {
-    let order = Order::of(q.prg);
-    if want(q.kind, order) == 1 {
+    if wants(q.kind, Order::of(q.prg)) == Want::OwnFit {
         let g = Range::of(st, q);
         if g.components_good(st) {
-            return fit_between(fits, g.compno0 as usize, g.compno1 as usize);
+            return fit_between(parts, g.compno0 as usize, g.compno1 as usize);
         }
     }
     true
 }
 
 // So it is for every progression of st.
-fn ranges_fit(st: State, fits: &[bool; State::COMPONENT_PLACES]) -> bool
+fn ranges_fit(st: State, parts: &[Sums; State::COMPONENT_PLACES]) -> bool
     requires { st.components ≤ 16 }
-    ensures { result ≡ ranges_fit st fits.now }
+    ensures { result ≡ ranges_fit st parts.now }
 {
-    let n = math::uint_min(st.progressions, State::MAX_PROGRESSIONS) as usize;
-    let mut k: usize = 0;
-    while k < n {
-        let p = st.changes[k];
-        if range_fits(st, p, fits) {
-            k += 1;
-        } else {
+    let n = st.progressions.min(State::MAX_PROGRESSIONS) as usize;
+    for q in &st.changes[..n] {
+        if !range_fits(st, *q, parts) {
             return false;
         }
     }
     true
 }
 
-// The steps have what the progressions of st want: whether all fit, and those of each component, and on each axis the smallest of each component and of all.
+// The steps have what the progressions of st want, by the sums of all components and of each.
 // Within a component every step is its own times a power of two, so that the smallest divides the others: one number a component is enough.
-pub(crate) fn agreed(
-    st: State,
-    fit: bool,
-    fits: &[bool; State::COMPONENT_PLACES],
-    xs: &[u32; State::COMPONENT_PLACES],
-    x: u32,
-    ys: &[u32; State::COMPONENT_PLACES],
-    y: u32,
-) -> bool
-    requires { (st.components ≤ 16) × (0 < x) × (0 < y) }
-    ensures { result ≡ agreed_of st fit fits.now xs.now x ys.now y }
+pub(crate) fn agreed(st: State, all: Sums, parts: &[Sums; State::COMPONENT_PLACES]) -> bool
+    requires { (st.components ≤ 16) × (0 < all.x_least) × (0 < all.y_least) }
+    ensures { result ≡ agreed_of st all parts.now }
 {
-    let most = most_wanted(st);
-    if most < 2 {
-        if fit {
-            return true;
-        }
-        return ranges_fit(st, fits);
+    match most_wanted(st) {
+        Want::Nothing | Want::OwnFit => all.fit || ranges_fit(st, parts),
+        Want::AllFit => all.fit,
+        Want::Multiples => all.fit && multiples(parts, st.components as usize, all),
     }
-    if !fit {
-        return false;
-    }
-    if most < 3 {
-        return true;
-    }
-    let n = st.components as usize;
-    let along = all_multiples(xs, n, x);
-    let down = all_multiples(ys, n, y);
-    along & down
 }

@@ -1,5 +1,5 @@
 // The words of the table that a survey keeps, as far as there is room for them.
-ghost use Rattle.std.specs.Prelude.{◌≡◌, ◌<◌, length, replicate, set};
+ghost use Rattle.std.specs.Prelude.{◌≡◌, ◌<◌, set};
 ghost use Rattle.survey.specs.Put.{put_numbers};
 ghost use Rattle.survey.specs.Kept.{words_of};
 
@@ -23,14 +23,4 @@ pub(crate) fn keep(kept: &mut [u32], to: usize, entry: Entry)
     put(kept, to + 1, entry.pdy);
     put(kept, to + 2, entry.width);
     put(kept, to + 3, entry.height);
-}
-
-pub(crate) fn clear(kept: &mut [u32])
-    ensures { kept.new ≡ replicate (length kept.old) 0 }
-{
-    let mut i: usize = 0;
-    while i < kept.len() {
-        kept[i] = 0;
-        i += 1;
-    }
 }

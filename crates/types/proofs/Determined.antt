@@ -1,8 +1,8 @@
 -- Each public contract of this crate allows one answer only. Assumes nothing.
 use mathlib.Core.Path.{refl}
 use Rattle.laws.specs.Determined.{determined, OneAnswer, OneOutcome}
-use Rattle.types.proofs.answer.Verdict.number.Kinds as number_kinds
-use Rattle.types.proofs.answer.Verdict.number.Reads as number
+use Rattle.types.proofs.answer.I32FromRefusal.from.Kinds as number_kinds
+use Rattle.types.proofs.answer.I32FromRefusal.from.Reads as number
 use Rattle.types.proofs.cursor.Cursor.fresh.Kinds as fresh_kinds
 use Rattle.types.proofs.cursor.Cursor.fresh.Reads as fresh
 use Rattle.types.proofs.cursor.Cursor.ended.Kinds as ended_kinds
@@ -15,6 +15,8 @@ use Rattle.types.proofs.followed.Followed.with_total.Kinds as with_total_kinds
 use Rattle.types.proofs.followed.Followed.with_total.Reads as with_total_it
 use Rattle.types.proofs.followed.Followed.one_less.Kinds as one_less_kinds
 use Rattle.types.proofs.followed.Followed.one_less.Reads as one_less
+use Rattle.types.proofs.state.Component.none.Kinds as no_component_kinds
+use Rattle.types.proofs.state.Component.none.Reads as no-component
 use Rattle.types.proofs.state.Progression.none.Kinds as none_kinds
 use Rattle.types.proofs.state.Progression.none.Reads as none
 use Rattle.types.proofs.state.State.empty.Kinds as empty_kinds
@@ -25,8 +27,8 @@ use Rattle.types.proofs.state.Progression.in_range.Kinds as in_range_kinds
 use Rattle.types.proofs.state.Progression.in_range.Reads as in_range_lem
 use Rattle.types.proofs.state.State.tile_in_range.Kinds as tile_in_range_kinds
 use Rattle.types.proofs.state.State.tile_in_range.Reads as tile-in-range
-use Rattle.types.proofs.state.State.component_in_range.Kinds as component_in_range_kinds
-use Rattle.types.proofs.state.State.component_in_range.Reads as component-in-range
+use Rattle.types.proofs.state.Component.in_range.Kinds as component_in_range_kinds
+use Rattle.types.proofs.state.Component.in_range.Reads as component-in-range
 use Rattle.types.proofs.state.State.exponents_in_range.Kinds as exponents_in_range_kinds
 use Rattle.types.proofs.state.State.exponents_in_range.Reads as exponents_in_range
 use Rattle.types.proofs.order.Order.of.Kinds as order_of_kinds
@@ -70,6 +72,9 @@ with_total-determined κs a r s e f = determined _ r s
 
 pub one_less_determined : OneAnswer one_less_kinds.ps one_less_kinds.r one_less.Post
 one_less_determined κs a r s e f = determined _ r s
+
+pub component_none_determined : OneAnswer no_component_kinds.ps no_component_kinds.r no-component.Post
+component_none_determined κs a r s e f = determined _ r s
 
 pub none_determined : OneAnswer none_kinds.ps none_kinds.r none.Post
 none_determined κs a r s e f = determined _ r s

@@ -1,11 +1,16 @@
 -- The values that the calls pass around, at their starts.
 use Rattle.std.specs.Prelude.{ℕ, replicate, pos}
+use Rattle.types.specs.declared.state.Component.{Component}
 use Rattle.types.specs.declared.state.Progression.{Progression}
 use Rattle.types.specs.declared.state.Reports.{Reports}
 use Rattle.types.specs.declared.state.State.{State}
 use Rattle.types.specs.declared.cursor.Position.{Position}
 use Rattle.types.specs.declared.cursor.Cursor.{Cursor}
 use Rattle.types.specs.declared.cursor.Place.TheVariants.{Fresh, Ended}
+
+-- a component with every number 0
+abbrev pub no_component : Component
+no_component = record { dx = 0; dy = 0; resolutions = 0 }
 
 -- a progression with every number 0
 abbrev pub no_progression : Progression
@@ -26,9 +31,7 @@ empty_state =
       layers = 0;
       components = 0;
       progressions = 0;
-      dx = replicate 16 0;
-      dy = replicate 16 0;
-      resolutions = replicate 16 0;
+      comps = replicate 16 no_component;
       changes = replicate 32 no_progression;
       reports = no_reports;
     }

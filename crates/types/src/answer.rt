@@ -4,90 +4,57 @@ ghost use Rattle.types.specs.Answers.{number_of};
 
 use crate::cursor::{Cursor, Position};
 use crate::followed::Followed;
-use crate::state::State;
-use geometry::tile::Area;
 
-// Whether a sheet, and what is lent with it, is accepted.
-#[derive(Clone, Copy)]
-pub enum Verdict {
-    Accepted,
-    // -1: empty, no multiple of 32 bytes, or too long
-    Length,
-    // -2: a record is of the wrong kind or form, missing or left over
-    Shape,
-    // -3: a field is out of range
-    Range,
-    // -4: a position order whose grid is not agreed
-    Grid,
-    // -5: too many marks needed
-    TooMany,
-    // -6, -7, -8: lent marks, table or output too short
-    Marks,
-    Table,
-    Output,
+// Why setup or a whole run refuses a sheet, or what is lent with it.
+#[derive(Clone, Copy, PartialEq, Eq)]
+pub enum Refusal {
+    // empty, no multiple of 32 bytes, or too long
+    Length = -1,
+    // a record is of the wrong kind or form, missing or left over
+    Shape = -2,
+    // a field is out of range
+    Range = -3,
+    // a position order whose grid is not agreed
+    Grid = -4,
+    // too many marks needed
+    TooMany = -5,
+    // lent marks, table or output too short
+    Marks = -6,
+    Table = -7,
+    Output = -8,
 }
 
-impl Verdict {
-    pub fn number(self) -> i32
-        ensures { result ≡ number_of self }
-    {
-        match self {
-            Verdict::Accepted => 0,
-            Verdict::Length => -1,
-            Verdict::Shape => -2,
-            Verdict::Range => -3,
-            Verdict::Grid => -4,
-            Verdict::TooMany => -5,
-            Verdict::Marks => -6,
-            Verdict::Table => -7,
-            Verdict::Output => -8,
-        }
+impl From<Refusal> for i32 {
+    ghost from_gives = { λ r n. n ≡ number_of r };
+
+    fn from(refusal: Refusal) -> i32 {
+        refusal as i32
     }
 }
 
-// An enum cannot hold an array, so the verdict stands beside the state, which is the empty one unless the sheet is accepted.
-#[derive(Clone, Copy)]
-pub struct SetUp {
-    pub verdict: Verdict,
-    pub state: State,
+// Why a progression is not opened.
+#[derive(Clone, Copy, PartialEq, Eq)]
+pub enum NotOpened {
+    Unsound = -9,
+    NoViewer = -15,
+    NoSuch = -11,
 }
 
-// And with the totals, for those who follow it; with a refusal they are 0.
-#[derive(Clone, Copy)]
-pub struct Started {
-    pub verdict: Verdict,
-    pub followed: Followed,
-}
-
-#[derive(Clone, Copy)]
-pub enum Opened {
-    Cursor(Cursor),
-    // -9
-    Unsound,
-    // -15
-    NoViewer,
-    // -11
-    NoSuch,
-}
-
-// Joining: a viewer's bits of the needed marks are cleared (02, P4).
-#[derive(Clone, Copy)]
-pub enum Joined {
-    // 0
-    Done,
-    // -9
-    Unsound,
-    // -15
-    NoViewer,
+// Joining: a viewer's bits of the needed marks are cleared (02, P4). Why it is refused.
+#[derive(Clone, Copy, PartialEq, Eq)]
+pub enum NotJoined {
+    Unsound = -9,
+    NoViewer = -15,
 }
 
 // What joining answers, and the state and totals after it.
 #[derive(Clone, Copy)]
 pub struct AfterJoin {
-    pub said: Joined,
+    pub said: Result<(), NotJoined>,
     pub followed: Followed,
 }
 
+// kept as an enum of its own: a packet, the end and a refusal, each with its cursor, are more than a value and an error
 #[derive(Clone, Copy)]
 pub enum Stepped {
     // 1: the packet, with its moved cursor
@@ -105,13 +72,9 @@ pub struct AfterStep {
     pub followed: Followed,
 }
 
-// Where a precinct is (02, P2).
-#[derive(Clone, Copy)]
-pub enum Located {
-    // 0: its rectangle on its resolution
-    Rectangle(Area),
-    // -9
-    Unsound,
-    // -14
-    NoSuch,
+// Why the rectangle of a precinct is not told (02, P2).
+#[derive(Clone, Copy, PartialEq, Eq)]
+pub enum NotLocated {
+    Unsound = -9,
+    NoSuch = -14,
 }

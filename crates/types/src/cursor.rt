@@ -3,7 +3,7 @@ ghost use Rattle.std.specs.Prelude.{◌≡◌};
 ghost use Rattle.types.specs.State.{fresh_cursor, ended_cursor};
 
 // One packet, and the point of the tile at which it is met (0 in orders LRCP and RLCP).
-#[derive(Clone, Copy)]
+#[derive(Clone, Copy, PartialEq, Eq)]
 pub struct Position {
     pub layno: u32,
     pub resno: u32,
@@ -13,14 +13,14 @@ pub struct Position {
     pub y: u32,
 }
 
-#[derive(Clone, Copy)]
+#[derive(Clone, Copy, PartialEq, Eq)]
 pub enum Place {
     Fresh,
     At(Position),
     Ended,
 }
 
-#[derive(Clone, Copy)]
+#[derive(Clone, Copy, PartialEq, Eq)]
 pub struct Cursor {
     // the viewer by whose bit of the marks it goes, from 0
     pub viewer: u32,

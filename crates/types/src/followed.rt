@@ -5,7 +5,7 @@ ghost use Rattle.types.specs.Totals.{started_with, total_for, with_total};
 use crate::cursor::Cursor;
 use crate::state::State;
 
-#[derive(Clone, Copy)]
+#[derive(Clone, Copy, PartialEq, Eq)]
 pub struct Followed {
     pub state: State,
     pub totals: [u32; Followed::PLACES],
@@ -27,10 +27,7 @@ impl Followed {
     pub fn total(self, viewer: u32) -> u32
         ensures { result ≡ total_for self viewer }
     {
-        if viewer < Cursor::VIEWERS {
-            return self.totals[viewer as usize];
-        }
-        0
+        self.totals.get(viewer as usize).copied().unwrap_or(0)
     }
 
     // The same with another total of a viewer.
@@ -48,10 +45,6 @@ impl Followed {
     pub fn one_less(self, viewer: u32) -> Self
         ensures { result ≡ with_total self viewer (total_for self viewer - 1) }
     {
-        let n = self.total(viewer);
-        if n == 0 {
-            return self.with_total(viewer, 0);
-        }
-        self.with_total(viewer, n - 1)
+        self.with_total(viewer, self.total(viewer).saturating_sub(1))
     }
 }

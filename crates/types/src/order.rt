@@ -3,7 +3,6 @@ ghost use Rattle.std.specs.Prelude.{◌≡◌};
 ghost use Rattle.types.specs.Orders.{order_of, by_points, range_of, components_good};
 
 use crate::state::{Progression, State};
-use geometry::math;
 
 // The orders of T.800 B.12.1; any other number has no positions.
 #[derive(Clone, Copy)]
@@ -29,6 +28,7 @@ impl Order {
     pub const CPRL: i32 = 4;
 
     // The order with a number.
+    // kept as a function: docs/CONTRACTS.md names it, and From would say no more
     pub fn of(prg: i32) -> Self
         ensures { result ≡ order_of prg }
     {
@@ -46,14 +46,7 @@ impl Order {
     pub fn by_points(self) -> bool
         ensures { result ≡ by_points self }
     {
-        match self {
-            Order::Lrcp => false,
-            Order::Rlcp => false,
-            Order::Rpcl => true,
-            Order::Pcrl => true,
-            Order::Cprl => true,
-            Order::NoPositions => false,
-        }
+        matches!(self, Order::Rpcl | Order::Pcrl | Order::Cprl)
     }
 }
 
@@ -81,12 +74,19 @@ impl Range {
                 compno1: st.components,
             };
         }
+        let Progression {
+            resno0,
+            compno0,
+            resno1,
+            compno1,
+            ..
+        } = q;
         Range {
-            layno1: math::uint_min(q.layno1, st.layers),
-            resno0: q.resno0,
-            resno1: q.resno1,
-            compno0: q.compno0,
-            compno1: q.compno1,
+            layno1: q.layno1.min(st.layers),
+            resno0,
+            resno1,
+            compno0,
+            compno1,
         }
     }
 

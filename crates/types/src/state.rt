@@ -1,10 +1,19 @@
 // A sheet's fields as setup answers them, by value. Precinct exponents are not here: they stand in the table.
 ghost use Rattle.std.specs.Prelude.{◌≡◌};
 ghost use Rattle.types.specs.Ranges.{within, tile_range, component_range, exponent_range, is_volume, progression_range};
-ghost use Rattle.types.specs.State.{no_progression, no_reports, empty_state};
+ghost use Rattle.types.specs.State.{no_component, no_progression, no_reports, empty_state};
+
+// A component: its steps, and the number of its resolutions. It is opj_pi_comp_t.
+#[derive(Clone, Copy, PartialEq, Eq)]
+pub struct Component {
+    pub dx: u32,
+    pub dy: u32,
+    pub resolutions: u32,
+}
 
 // A progression as its record has it. Names are those of opj_poc_t.
-#[derive(Clone, Copy)]
+// kept as numbers, kind and prg: a state is whatever a caller makes of it, and soundness answers for every kind and every order (packets Sound.progression_good)
+#[derive(Clone, Copy, PartialEq, Eq)]
 pub struct Progression {
     // 4, 6 for one whose steps need not divide one another, or 5 for one of the whole tile
     pub kind: u32,
@@ -17,7 +26,7 @@ pub struct Progression {
 }
 
 // What setup reports: the largest precinct count and number of resolutions, and the smallest steps.
-#[derive(Clone, Copy)]
+#[derive(Clone, Copy, PartialEq, Eq)]
 pub struct Reports {
     pub max_prec: u32,
     pub max_res: u32,
@@ -25,7 +34,7 @@ pub struct Reports {
     pub dy_min: u32,
 }
 
-#[derive(Clone, Copy)]
+#[derive(Clone, Copy, PartialEq, Eq)]
 pub struct State {
     // the tile
     pub tx0: u32,
@@ -35,13 +44,33 @@ pub struct State {
     pub layers: u32,
     pub components: u32,
     pub progressions: u32,
-    // of each component: its steps and the number of its resolutions; 0 beyond the last
-    pub dx: [u32; State::COMPONENT_PLACES],
-    pub dy: [u32; State::COMPONENT_PLACES],
-    pub resolutions: [u32; State::COMPONENT_PLACES],
+    // the components in turn; all 0 beyond the last
+    pub comps: [Component; State::COMPONENT_PLACES],
     // the progressions in turn; all 0 beyond the last
     pub changes: [Progression; State::PROGRESSION_PLACES],
     pub reports: Reports,
+}
+
+impl Component {
+    // One with every number 0, which no sheet has.
+    pub fn none() -> Self
+        ensures { result ≡ no_component }
+    {
+        Component {
+            dx: 0,
+            dy: 0,
+            resolutions: 0,
+        }
+    }
+
+    // 01: the ranges of a component's record.
+    pub fn in_range(self) -> bool
+        ensures { result ≡ component_range self.dx self.dy self.resolutions }
+    {
+        within_range(1, State::MAX_STEP, self.dx)
+            & (within_range(1, State::MAX_STEP, self.dy)
+                & within_range(1, State::MAX_RESOLUTIONS, self.resolutions))
+    }
 }
 
 impl Reports {
@@ -104,7 +133,7 @@ impl Progression {
 fn within_range(lo: u32, hi: u32, x: u32) -> bool
     ensures { result ≡ within lo hi x }
 {
-    (lo <= x) & (x <= hi)
+    (lo..=hi).contains(&x)
 }
 
 impl State {
@@ -142,9 +171,8 @@ impl State {
     pub fn empty() -> Self
         ensures { result ≡ empty_state }
     {
-        let none = Progression::none();
-        let numbers = [0u32; State::COMPONENT_PLACES];
-        let changes = [none; State::PROGRESSION_PLACES];
+        let comps = [Component::none(); State::COMPONENT_PLACES];
+        let changes = [Progression::none(); State::PROGRESSION_PLACES];
         let reports = Reports::none();
         State {
             tx0: 0,
@@ -154,15 +182,14 @@ impl State {
             layers: 0,
             components: 0,
             progressions: 0,
-            dx: numbers,
-            dy: numbers,
-            resolutions: numbers,
+            comps,
             changes,
             reports,
         }
     }
 
     // 01: the ranges of the tile's record.
+    // kept as seven numbers: words of a record in the reader, fields of a state in soundness; a struct would be made for this call alone
     pub fn tile_in_range(
         tx0: u32,
         ty0: u32,
@@ -179,15 +206,6 @@ impl State {
                 & (within_range(1, State::MAX_LAYERS, layers)
                     & (within_range(1, State::MAX_COMPONENTS, components)
                         & within_range(1, State::MAX_PROGRESSIONS, progressions))))
-    }
-
-    // 01: the ranges of a component's record.
-    pub fn component_in_range(dx: u32, dy: u32, resolutions: u32) -> bool
-        ensures { result ≡ component_range dx dy resolutions }
-    {
-        within_range(1, State::MAX_STEP, dx)
-            & (within_range(1, State::MAX_STEP, dy)
-                & within_range(1, State::MAX_RESOLUTIONS, resolutions))
     }
 
     // 01: the range of a resolution's precinct exponents.

@@ -1,12 +1,13 @@
 // The table (01, 'The table is lent bytes'): how many entries stand before a component's, and what an entry says.
 ghost use Rattle.std.specs.Prelude.{◌≡◌, ◌<◌, min, get_or};
 ghost use Rattle.laws.specs.Below.{sum_below};
+ghost use Rattle.types.specs.State.{no_component};
 ghost use Rattle.types.specs.Entries.{entry_at};
 
-use crate::state::State;
+use crate::state::{Component, State};
 
 // The entry of a resolution.
-#[derive(Clone, Copy)]
+#[derive(Clone, Copy, Default)]
 pub struct Entry {
     pub pdx: u32,
     pub pdy: u32,
@@ -22,12 +23,7 @@ impl Entry {
         ensures { result ≡ entry_at table.now i }
     {
         if State::MAX_ENTRIES <= i {
-            return Entry {
-                pdx: 0,
-                pdy: 0,
-                width: 0,
-                height: 0,
-            };
+            return Entry::default();
         }
         let w = words::four_at(table, Entry::BYTES * i);
         Entry {
@@ -46,18 +42,12 @@ fn wide(x: u32) -> usize
 }
 
 // How many resolutions the first n components have, of 16 at most.
-pub fn entries(resolutions: &[u32; State::COMPONENT_PLACES], n: usize) -> usize
-    ensures { result ≡ sum_below (λ c. get_or resolutions.now c 0) (min n 16) }
+pub fn entries(comps: &[Component; State::COMPONENT_PLACES], n: usize) -> usize
+    ensures { result ≡ sum_below (λ c. (get_or comps.now c no_component).resolutions) (min n 16) }
 {
     let mut sum: usize = 0;
-    let mut c: usize = 0;
-    while c < n {
-        if c < State::COMPONENT_PLACES {
-            sum += wide(resolutions[c]);
-        } else {
-            return sum;
-        }
-        c += 1;
+    for comp in &comps[..n.min(State::COMPONENT_PLACES)] {
+        sum += wide(comp.resolutions);
     }
     sum
 }

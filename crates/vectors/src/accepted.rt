@@ -1,81 +1,102 @@
 // Kind 1, an accepted sheet: setup with just enough lent, with too little, and with more; then every progression to its end; then the whole run.
 // Words: bytes of the sheet, marks needed, resolutions, packets; four reports; then the sheet, its table, its packets.
-use crate::bytes::{length, signed, word};
-use crate::lent::{FILL, MARKS, TABLE};
-use crate::{bytes, lent, setups, walked, whole};
-use types::state::State;
+use crate::buffer::{Buffer, MARKS, TABLE};
+use crate::bytes::Bytes;
+use crate::check::{Wrong, check};
+use crate::lent::{Largest, Lent};
+use crate::tile::Tile;
+use crate::{walked, whole};
+use types::state::Reports;
 
-fn sheet_of(rest: &[u8]) -> &[u8] {
-    bytes::part(rest, 32, length(rest, 0))
+#[derive(Drop)]
+pub(crate) struct Case<'a> {
+    pub(crate) sheet: &'a [u8],
+    pub(crate) needed: u32,
+    pub(crate) table: &'a [u8],
+    pub(crate) packets: &'a [[u8; 16]],
+    // how many packets there are to be
+    pub(crate) count: u32,
+    reports: Reports,
 }
 
-fn table_of(rest: &[u8]) -> &[u8] {
-    bytes::part(rest, 32 + length(rest, 0), 16 * length(rest, 2))
-}
-
-fn packets_of(rest: &[u8]) -> &[u8] {
-    let at = 32 + length(rest, 0) + 16 * length(rest, 2);
-    bytes::part(rest, at, 16 * length(rest, 3))
-}
-
-fn reports(st: State, rest: &[u8]) -> bool {
-    (st.reports.max_prec == word(rest, 4))
-        & (st.reports.max_res == word(rest, 5))
-        & (st.reports.dx_min == word(rest, 6))
-        & (st.reports.dy_min == word(rest, 7))
-}
-
-// Setup with so many bytes and marks lent beyond what is needed.
-fn set_up(rest: &[u8], beyond: u32) -> bool {
-    let stored = table_of(rest);
-    let needed = length(rest, 1);
-    let more = beyond as usize;
-    let mut table = [FILL; TABLE];
-    let mut marks = [FILL; MARKS];
-    let up = lent::setup(
-        sheet_of(rest),
-        &mut table,
-        16 * length(rest, 2) + more,
-        &mut marks,
-        needed + more,
-    );
-    let followed = up.followed;
-    let st = followed.state;
-    setups::says(up, 0)
-        & reports(st, rest)
-        & bytes::same(lent::inside(&table, stored.len()), stored)
-        & bytes::all_are(lent::inside(&marks, needed), 0)
-        & lent::only_inside(&table, stored.len())
-        & lent::only_inside(&marks, needed)
-}
-
-// One byte of the table too few: -7.
-fn short_table(rest: &[u8]) -> bool {
-    let needed = 16 * length(rest, 2);
-    if needed == 0 {
-        return false;
+impl<'a> Case<'a> {
+    fn read(record: &'a [u8]) -> Self {
+        let mut bytes = Bytes(record);
+        let [
+            sheet,
+            needed,
+            resolutions,
+            count,
+            max_prec,
+            max_res,
+            dx_min,
+            dy_min,
+        ] = bytes.words::<8>();
+        Case {
+            sheet: bytes.part(sheet as usize),
+            needed,
+            table: bytes.part(16 * (resolutions as usize)),
+            packets: bytes.rows(count),
+            count,
+            reports: Reports {
+                max_prec,
+                max_res,
+                dx_min,
+                dy_min,
+            },
+        }
     }
-    setups::refused(sheet_of(rest), needed - 1, length(rest, 1), -7)
-}
 
-// One mark too few: -6, whatever is lent for the table.
-fn short_marks(rest: &[u8]) -> bool {
-    let needed = length(rest, 1);
-    if needed == 0 {
-        return true;
+    // The sheet with just enough lent.
+    pub(crate) fn tile(&self) -> Result<Tile<TABLE, MARKS>, Wrong> {
+        Ok(Tile::set_up(self.sheet, self.table.len(), self.needed as usize)?)
     }
-    setups::refused(sheet_of(rest), 16 * length(rest, 2), needed - 1, -6)
-        & setups::refused(sheet_of(rest), 0, needed - 1, -6)
+
+    // The marks as they are left when the stored packets are listed.
+    pub(crate) fn left(&self) -> Result<Buffer<MARKS>, Wrong> {
+        let tile = self.tile()?;
+        let mut marks = tile.lent.marks;
+        for packet in self.packets {
+            if let Some(mark) = marks.get_mut(tile.mark_of(Bytes(packet).words())) {
+                *mark = 1;
+            }
+        }
+        Ok(marks)
+    }
+
+    // Setup with so many bytes and marks lent beyond what is needed.
+    fn set_up(&self, beyond: usize) -> Result<(), Wrong> {
+        let table = self.table.len();
+        let marks = self.needed as usize;
+        let mut lent = Lent::<TABLE, MARKS>::new(
+            table.saturating_add(beyond),
+            marks.saturating_add(beyond),
+        );
+        let followed = lent.setup(self.sheet)?;
+        check(followed.state.reports == self.reports)?;
+        check(lent.table.only(table) == Some(self.table))?;
+        check(lent.marks.is_clear(marks))
+    }
+
+    // One byte of the table too few: -7. One mark too few: -6, whatever is lent for the table.
+    fn too_short(&self) -> Result<(), Wrong> {
+        let table = self.table.len();
+        let marks = self.needed as usize;
+        let short = table.checked_sub(1).ok_or(Wrong)?;
+        Largest::new(short, marks).refuses(self.sheet, -7)?;
+        if let Some(short) = marks.checked_sub(1) {
+            Largest::new(table, short).refuses(self.sheet, -6)?;
+            Largest::new(0, short).refuses(self.sheet, -6)?;
+        }
+        Ok(())
+    }
 }
 
-pub(crate) fn right(rest: &[u8]) -> bool {
-    let sheet = sheet_of(rest);
-    let table = table_of(rest);
-    let packets = packets_of(rest);
-    set_up(rest, 0)
-        & set_up(rest, 7)
-        & short_table(rest)
-        & short_marks(rest)
-        & walked::right(sheet, table.len(), packets, length(rest, 1))
-        & whole::right(sheet, table, packets, word(rest, 1), signed(rest, 3))
+pub(crate) fn replay(record: &[u8]) -> Result<(), Wrong> {
+    let case = Case::read(record);
+    case.set_up(0)?;
+    case.set_up(7)?;
+    case.too_short()?;
+    walked::replay(&case)?;
+    whole::replay(&case)
 }

@@ -1,155 +1,59 @@
-// What is lent stands in a larger buffer, between guard bytes that must not change.
-ghost use Rattle.std.specs.Prelude.{◌≡◌, ◌≤◌, min, length};
-
-use crate::bytes;
-use types::answer::{AfterJoin, AfterStep, Opened, Started};
-use types::cursor::Cursor;
+// The table and the marks that are lent to the calls, so many bytes of each.
+use crate::buffer::{Buffer, MOST_MARKS, TABLE};
+use crate::check::{Wrong, check};
+use types::answer::Refusal;
 use types::followed::Followed;
 
-// A buffer is filled with this before a call.
-pub(crate) const FILL: u8 = 0xa5;
-
-// What is lent starts here.
-pub(crate) const GUARD: usize = 16;
-
-// Buffers for the largest table and the most marks, and some bytes more.
-pub(crate) const TABLE: usize = 8_512;
-
-pub(crate) const MOST_MARKS: usize = 65_600;
-
-// Marks, and output for them, of an accepted sheet of kind 1, which needs 2,048 at most.
-pub(crate) const MARKS: usize = 2_112;
-
-pub(crate) const OUTPUT: usize = 32_832;
-
-// Table or marks of a small sheet.
-pub(crate) const SMALL: usize = 512;
-
-// The lent bytes of a buffer.
-pub(crate) fn inside(buffer: &[u8], n: usize) -> &[u8] {
-    bytes::part(buffer, GUARD, n)
+// The lengths stand beside: what is lent is less than its buffer, so that the bytes after it can be seen to stay.
+#[derive(Clone, Copy, PartialEq, Eq)]
+pub(crate) struct Lent<const T: usize, const M: usize> {
+    pub(crate) table: Buffer<T>,
+    pub(crate) table_bytes: usize,
+    pub(crate) marks: Buffer<M>,
+    pub(crate) mark_bytes: usize,
 }
 
-// Copies to the lent bytes of a buffer.
-pub(crate) fn put(buffer: &mut [u8], from: &[u8]) {
-    if GUARD <= buffer.len() {
-        bytes::copy(from, &mut buffer[GUARD..]);
+// Room for whatever a sheet may need.
+pub(crate) type Largest = Lent<TABLE, MOST_MARKS>;
+
+impl<const T: usize, const M: usize> Lent<T, M> {
+    pub(crate) fn new(table_bytes: usize, mark_bytes: usize) -> Self {
+        Lent {
+            table: Buffer::filled(),
+            table_bytes,
+            marks: Buffer::filled(),
+            mark_bytes,
+        }
     }
-}
 
-// Changes bits of a lent byte.
-pub(crate) fn flip(buffer: &mut [u8], at: usize, bits: u8) {
-    if GUARD <= buffer.len() {
-        bytes::flip(&mut buffer[GUARD..], at, bits);
+    // The table to be read and the marks to be written.
+    pub(crate) fn for_calls(&mut self) -> (&[u8], &mut [u8]) {
+        let (table, marks) = (self.table_bytes, self.mark_bytes);
+        (self.table.first(table), self.marks.first_mut(marks))
     }
-}
 
-// Whether all but n bytes from the guard on are as filled.
-pub(crate) fn only_inside(buffer: &[u8], n: usize) -> bool {
-    if buffer.len() < GUARD {
-        return false;
+    pub(crate) fn setup(&mut self, sheet: &[u8]) -> Result<Followed, Refusal> {
+        let table = self.table.first_mut(self.table_bytes);
+        let marks = self.marks.first_mut(self.mark_bytes);
+        calls::setup::setup(sheet, table, marks)
     }
-    if buffer.len() - GUARD < n {
-        return false;
+
+    // Setup refuses with this number, and changes nothing.
+    pub(crate) fn refuses(mut self, sheet: &[u8], number: i32) -> Result<(), Wrong> {
+        let before = self;
+        check(self.setup(sheet).is_err_and(|e| e as i32 == number))?;
+        check(self == before)
     }
-    let end = GUARD + n;
-    bytes::all_are(&buffer[0..GUARD], FILL) & bytes::all_are(&buffer[end..], FILL)
-}
 
-// Where what is lent starts.
-fn start_of(buffer: &[u8]) -> usize
-    ensures { result ≡ min 16 (length buffer.now) }
-{
-    if buffer.len() < GUARD {
-        buffer.len()
-    } else {
-        GUARD
+    // The whole run, with so many bytes of the output lent.
+    pub(crate) fn whole_run<const O: usize>(
+        &mut self,
+        sheet: &[u8],
+        output: &mut Buffer<O>,
+        output_bytes: usize,
+    ) -> Result<u32, Refusal> {
+        let table = self.table.first_mut(self.table_bytes);
+        let marks = self.marks.first_mut(self.mark_bytes);
+        calls::whole::whole_run(sheet, table, marks, output.first_mut(output_bytes))
     }
-}
-
-// Where n lent bytes end, or the buffer if it has fewer.
-fn end_of(buffer: &[u8], n: usize) -> usize
-    ensures { (min 16 (length buffer.now) ≤ result) × (result ≤ length buffer.now) }
-{
-    let start = start_of(buffer);
-    if buffer.len() - start < n {
-        buffer.len()
-    } else {
-        start + n
-    }
-}
-
-// Setup with so many bytes of each buffer lent.
-pub(crate) fn setup(
-    sheet: &[u8],
-    table: &mut [u8],
-    table_bytes: usize,
-    marks: &mut [u8],
-    mark_bytes: usize,
-) -> Started {
-    let t0 = start_of(table);
-    let t1 = end_of(table, table_bytes);
-    let m0 = start_of(marks);
-    let m1 = end_of(marks, mark_bytes);
-    calls::setup::setup(sheet, &mut table[t0..t1], &mut marks[m0..m1])
-}
-
-// The whole run with so many bytes of each buffer lent.
-pub(crate) fn whole_run(
-    sheet: &[u8],
-    table: &mut [u8],
-    table_bytes: usize,
-    marks: &mut [u8],
-    mark_bytes: usize,
-    output: &mut [u8],
-    output_bytes: usize,
-) -> i32 {
-    let t0 = start_of(table);
-    let t1 = end_of(table, table_bytes);
-    let m0 = start_of(marks);
-    let m1 = end_of(marks, mark_bytes);
-    let o0 = start_of(output);
-    let o1 = end_of(output, output_bytes);
-    calls::whole::whole_run(
-        sheet,
-        &mut table[t0..t1],
-        &mut marks[m0..m1],
-        &mut output[o0..o1],
-    )
-}
-
-// A step over a table, with so many marks of the buffer lent.
-pub(crate) fn step(
-    f: Followed,
-    table: &[u8],
-    marks: &mut [u8],
-    mark_bytes: usize,
-    cursor: Cursor,
-) -> AfterStep {
-    let m0 = start_of(marks);
-    let m1 = end_of(marks, mark_bytes);
-    calls::step::step(f, table, &mut marks[m0..m1], cursor)
-}
-
-pub(crate) fn open(
-    f: Followed,
-    table: &[u8],
-    marks: &[u8],
-    mark_bytes: usize,
-    viewer: u32,
-    progression: u32,
-) -> Opened {
-    calls::open::open(f, table, inside(marks, mark_bytes), viewer, progression)
-}
-
-pub(crate) fn join(
-    f: Followed,
-    table: &[u8],
-    marks: &mut [u8],
-    mark_bytes: usize,
-    viewer: u32,
-) -> AfterJoin {
-    let m0 = start_of(marks);
-    let m1 = end_of(marks, mark_bytes);
-    calls::join::join(f, table, &mut marks[m0..m1], viewer)
 }

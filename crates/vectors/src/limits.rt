@@ -1,25 +1,22 @@
 // Kind 4, a sheet at a limit, accepted or refused with the number of the first rule that it breaks.
 // Words: bytes of the sheet, bytes of the table lent, marks lent, the number; then the sheet. An accepted one is lent just what it needs.
-use crate::bytes::{length, signed};
-use crate::lent::{FILL, MOST_MARKS, TABLE};
-use crate::{bytes, lent, setups};
+use crate::bytes::Bytes;
+use crate::check::{Wrong, check};
+use crate::lent::Largest;
 
-fn accepted(sheet: &[u8], table_bytes: usize, mark_bytes: usize) -> bool {
-    let mut table = [FILL; TABLE];
-    let mut marks = [FILL; MOST_MARKS];
-    let up = lent::setup(sheet, &mut table, table_bytes, &mut marks, mark_bytes);
-    setups::says(up, 0)
-        & bytes::all_are(lent::inside(&marks, mark_bytes), 0)
-        & lent::only_inside(&table, table_bytes)
-        & lent::only_inside(&marks, mark_bytes)
+fn accepts(mut lent: Largest, sheet: &[u8]) -> Result<(), Wrong> {
+    lent.setup(sheet)?;
+    check(lent.table.only(lent.table_bytes).is_some())?;
+    check(lent.marks.is_clear(lent.mark_bytes))
 }
 
-pub(crate) fn right(rest: &[u8]) -> bool {
-    let sheet = bytes::part(rest, 16, length(rest, 0));
-    let number = signed(rest, 3);
-    if number == 0 {
-        accepted(sheet, length(rest, 1), length(rest, 2))
-    } else {
-        setups::refused(sheet, length(rest, 1), length(rest, 2), number)
+pub(crate) fn replay(record: &[u8]) -> Result<(), Wrong> {
+    let mut bytes = Bytes(record);
+    let [sheet, table, marks, number] = bytes.words::<4>();
+    let sheet = bytes.part(sheet as usize);
+    let lent = Largest::new(table as usize, marks as usize);
+    match number.cast_signed() {
+        0 => accepts(lent, sheet),
+        number => lent.refuses(sheet, number),
     }
 }

@@ -3,100 +3,101 @@
 #![tactic(auto)]
 
 mod accepted;
+mod buffer;
 mod bytes;
-mod cursors;
+mod check;
 mod dead_feed;
-mod file;
+mod kind;
 mod lent;
 mod limits;
 mod numbers;
+mod positions;
 mod rectangles;
-mod same;
-mod setups;
 mod steps;
 mod tally;
+mod tile;
 mod traces;
 mod walked;
 mod whole;
 
-use crate::file::Head;
+use crate::bytes::Bytes;
+use crate::check::Wrong;
+use crate::kind::Kind;
 use crate::tally::Tally;
 use anyhow::{Context, Result};
 use std::fs::File;
 use std::io;
-use std::io::Read;
+use std::io::{ErrorKind, Read};
+use std::ops::ControlFlow;
 use std::rt::Files;
 
-// No case is longer.
+// No record is longer.
 const LONGEST: usize = 65_536;
 
-// No file has more cases.
+// No file has more records.
 const MOST: u32 = 100_000;
 
-// Whether our functions give the stored answer to a case.
-fn right(kind: u32, rest: &[u8]) -> bool {
-    match kind {
-        1 => accepted::right(rest),
-        2 => numbers::tile_bounds(rest),
-        3 => numbers::arithmetic(rest),
-        4 => limits::right(rest),
-        7 => traces::right(rest),
-        _ => false,
+// The next record of the file (kind, length of the rest in bytes, rest), none at the end: its kind, and the rest, which goes to what is lent. A rest
+// that is longer has no end.
+fn record<'a>(file: &mut impl Read, lent: &'a mut [u8]) -> io::Result<Option<(u32, &'a [u8])>> {
+    let mut head = [0u8; 8];
+    let got = file.read(&mut head)?;
+    if got == 0 {
+        return Ok(None);
     }
+    file.read_exact(&mut head[got..])?;
+    let [kind, length] = Bytes(&head).words::<2>();
+    let rest = lent
+        .get_mut(..length as usize)
+        .ok_or(ErrorKind::UnexpectedEof)?;
+    file.read_exact(rest)?;
+    Ok(Some((kind, rest)))
 }
 
-// The cases of a record: many of kinds 5 and 6, else one.
-fn replayed(rt: &impl Print, kind: u32, rest: &[u8], so_far: Tally) -> io::Result<Tally> {
-    match kind {
-        5 => steps::all(rt, rest, so_far),
-        6 => rectangles::all(rt, rest, so_far),
-        _ => so_far.with(rt, right(kind, rest)),
-    }
-}
-
-// The next case of the file; one of another kind is passed over.
-fn turn(rt: &impl Print, file: &mut impl Read, kind: u32, so_far: Tally) -> io::Result<Tally> {
-    let mut rest = [0u8; LONGEST];
-    match file::next(file, &mut rest)? {
-        Head::Case(found, length) => {
-            if found == kind {
-                replayed(rt, kind, bytes::part(&rest, 0, length), so_far)
-            } else {
-                Ok(so_far)
+// Replays the next record of the file. One without an end is a wrong case, and the last.
+fn turn(file: &mut impl Read, tally: &mut Tally<'_, impl Print>) -> io::Result<ControlFlow<()>> {
+    let mut lent = [0u8; LONGEST];
+    match record(file, &mut lent) {
+        Ok(Some((kind, rest))) => {
+            // one of another kind is passed over
+            if kind == tally.kind as u32 {
+                tally.kind.replay(rest, tally)?;
             }
+            Ok(ControlFlow::Continue(()))
         }
-        Head::End => Ok(so_far.ended()),
-        Head::Broken => Ok(so_far.with(rt, false)?.ended()),
+        Ok(None) => Ok(ControlFlow::Break(())),
+        Err(e) if e.kind() == ErrorKind::UnexpectedEof => {
+            tally.case(Err(Wrong))?;
+            Ok(ControlFlow::Break(()))
+        }
+        Err(e) => Err(e),
     }
 }
 
-// Every case of a kind up to the file's end.
-fn all(rt: &impl Print, file: &mut impl Read, kind: u32) -> io::Result<Tally> {
-    let mut tally = Tally::new(kind);
-    for _ in 0..MOST {
-        if !tally.going {
-            return Ok(tally);
+// Every record up to the file's end. Where that does not come before the last turn, it is a wrong case.
+fn all(file: &mut impl Read, tally: &mut Tally<'_, impl Print>) -> io::Result<()> {
+    for _ in 1..MOST {
+        if turn(file, tally)?.is_break() {
+            return Ok(());
         }
-        tally = turn(rt, file, kind, tally)?;
     }
-    tally.with(rt, false)
+    let _ = turn(file, tally)?;
+    tally.case(Err(Wrong))
 }
 
-fn replay(rt: &(impl Files + Print), path: &str, kind: u32, name: &str) -> Result<()> {
+fn replay(rt: &(impl Files + Print), kind: Kind) -> Result<()> {
+    let path = kind.file();
     let mut file = File::open(rt, path).context(path)?;
-    let tally = all(rt, &mut file, kind).context(path)?;
-    tally::line(rt, name, tally)?;
+    let mut tally = Tally::new(rt, kind);
+    all(&mut file, &mut tally).context(path)?;
+    println!(rt; "{tally}")?;
     Ok(())
 }
 
 fn main(rt: HostRuntime) -> Result<()> {
-    replay(&rt, "rust", 1, "accepted sheets")?;
-    replay(&rt, "rust", 2, "tile bounds")?;
-    replay(&rt, "rust", 3, "arithmetic")?;
-    replay(&rt, "model", 4, "limits")?;
-    replay(&rt, "model", 5, "steps")?;
-    replay(&rt, "model", 6, "rectangles")?;
-    replay(&rt, "model", 7, "traces of eight viewers")?;
-    dead_feed::dead_feed(&rt)?;
+    for kind in Kind::ALL {
+        replay(&rt, kind)?;
+    }
+    dead_feed::replay(&rt)?;
     Ok(())
 }

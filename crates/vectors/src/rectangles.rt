@@ -1,66 +1,35 @@
 // Kind 6, rectangles of precincts in one sheet: of precincts all over it, of numbers that it has not got, and over a table that is changed or
 // lent too short. Words: bytes of the sheet, marks needed, bytes of the table, questions; then the sheet and the questions.
-use crate::bytes::{length, signed, word};
-use crate::lent::{FILL, MOST_MARKS, TABLE};
+use crate::buffer::{Buffer, TABLE};
+use crate::bytes::Bytes;
+use crate::check::{Wrong, check, stored};
+use crate::lent::Largest;
 use crate::tally::Tally;
-use crate::{bytes, lent, setups};
 use std::io;
-use types::answer::Located;
-
-fn sheet_of(rest: &[u8]) -> &[u8] {
-    bytes::part(rest, 16, length(rest, 0))
-}
-
-fn questions_of(rest: &[u8]) -> &[u8] {
-    bytes::part(rest, 16 + length(rest, 0), 44 * length(rest, 3))
-}
-
-// Whether an answer has the question's number, and its bounds.
-fn answers(said: Located, question: &[u8]) -> bool {
-    let number = signed(question, 6);
-    match said {
-        Located::Rectangle(a) => {
-            (number == 0)
-                & (word(question, 7) == a.x0)
-                & (word(question, 8) == a.y0)
-                & (word(question, 9) == a.x1)
-                & (word(question, 10) == a.y1)
-        }
-        Located::Unsound => number == -9,
-        Located::NoSuch => number == -14,
-    }
-}
+use types::state::State;
 
 // A question: bytes of the table lent, a place in the table, the bits to change there, component, resolution and precinct; then its answer.
-fn right(rest: &[u8], question: &[u8]) -> bool {
-    let mut table = [FILL; TABLE];
-    let mut marks = [FILL; MOST_MARKS];
-    let up = lent::setup(
-        sheet_of(rest),
-        &mut table,
-        length(rest, 2),
-        &mut marks,
-        length(rest, 1),
-    );
-    let followed = up.followed;
-    let st = followed.state;
-    lent::flip(&mut table, length(question, 1), bytes::byte(question, 11));
-    let said = calls::rectangle::rectangle(
-        st,
-        lent::inside(&table, length(question, 0)),
-        word(question, 3),
-        word(question, 4),
-        word(question, 5),
-    );
-    setups::says(up, 0) & answers(said, question)
+fn answered(st: State, mut table: Buffer<TABLE>, question: &[u8]) -> Result<(), Wrong> {
+    let mut bytes = Bytes(question);
+    let [lent, at, bits, component, resolution, precinct] = bytes.words::<6>();
+    let [number] = bytes.words::<1>();
+    table.flip(at, bits);
+    let part = table.first(lent as usize);
+    let said = calls::rectangle::rectangle(st, part, component, resolution, precinct);
+    let said = said.map(|a| [a.x0, a.y0, a.x1, a.y1]);
+    check(said.map_err(|e| e as i32) == stored(number, bytes.words()))
 }
 
-pub(crate) fn all(rt: &impl Print, rest: &[u8], so_far: Tally) -> io::Result<Tally> {
-    let list = questions_of(rest);
-    let count = list.len() / 44;
-    let mut tally = so_far;
-    for i in 0..count {
-        tally = tally.with(rt, right(rest, bytes::part(list, 44 * i, 44)))?;
+pub(crate) fn replay(record: &[u8], tally: &mut Tally<'_, impl Print>) -> io::Result<()> {
+    let mut bytes = Bytes(record);
+    let [sheet, marks, table, questions] = bytes.words::<4>();
+    let mut lent = Largest::new(table as usize, marks as usize);
+    let up = lent.setup(bytes.part(sheet as usize));
+    for question in bytes.rows::<44>(questions) {
+        tally.case(match up {
+            Ok(followed) => answered(followed.state, lent.table, question),
+            Err(_) => Err(Wrong),
+        })?;
     }
-    Ok(tally)
+    Ok(())
 }

@@ -1,53 +1,48 @@
 // How many cases of a kind were replayed, and how many of them were wrong.
-use std::io;
+use crate::check::Wrong;
+use crate::kind::Kind;
+use std::{fmt, io};
 
-#[derive(Clone, Copy)]
-pub(crate) struct Tally {
-    pub(crate) kind: u32,
-    pub(crate) cases: u32,
-    pub(crate) wrong: u32,
-    // false after the last case
-    pub(crate) going: bool,
+#[derive(Drop)]
+pub(crate) struct Tally<'a, P> {
+    rt: &'a P,
+    pub(crate) kind: Kind,
+    cases: u32,
+    wrong: u32,
 }
 
-// Counts stop here, far beyond any file.
-const MOST: u32 = 1_000_000;
-
+// One more; counts stop far beyond any file.
 fn more(n: u32) -> u32 {
-    if n < MOST { n + 1 } else { n }
+    n.saturating_add(1).min(1_000_000)
 }
 
-// A wrong case by its kind and its number among them, from 0.
-fn report(rt: &impl Print, kind: u32, number: u32) -> io::Result<()> {
-    println!(rt; "wrong: kind {kind} number {number}")
-}
-
-impl Tally {
-    pub(crate) fn new(kind: u32) -> Self {
+impl<'a, P: Print> Tally<'a, P> {
+    pub(crate) fn new(rt: &'a P, kind: Kind) -> Self {
         Tally {
+            rt,
             kind,
             cases: 0,
             wrong: 0,
-            going: true,
         }
     }
 
-    // One case more.
-    pub(crate) fn with(mut self, rt: &impl Print, right: bool) -> io::Result<Self> {
-        if !right {
-            report(rt, self.kind, self.cases)?;
+    // One case more. A wrong one is told by its kind and its number among them, from 0.
+    pub(crate) fn case(&mut self, answered: Result<(), Wrong>) -> io::Result<()> {
+        if answered.is_err() {
+            println!(self.rt; "wrong: kind {} number {}", self.kind as u32, self.cases)?;
             self.wrong = more(self.wrong);
         }
         self.cases = more(self.cases);
-        Ok(self)
-    }
-
-    pub(crate) fn ended(mut self) -> Self {
-        self.going = false;
-        self
+        Ok(())
     }
 }
 
-pub(crate) fn line(rt: &impl Print, name: &str, t: Tally) -> io::Result<()> {
-    println!(rt; "{name}: {} cases, {} wrong", t.cases, t.wrong)
+impl<P> fmt::Display for Tally<'_, P> {
+    fn fmt<W: fmt::Write>(&self, f: &mut fmt::Formatter<W>) -> fmt::Result {
+        write!(
+            f,
+            "{}: {} cases, {} wrong",
+            self.kind, self.cases, self.wrong
+        )
+    }
 }

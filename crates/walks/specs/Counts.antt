@@ -1,9 +1,10 @@
 -- What LRCP and RLCP have in common: inside a layer and a resolution both go over the components and the precincts of each, by their count. Assumes nothing.
-use Rattle.std.specs.Prelude.{◌≡◌, Bool, ℕ, ◌+◌, ◌≤◌, ◌<◌, length}
+use Rattle.std.specs.Prelude.{◌≡◌, Bool, true, false, ℕ, ◌+◌, ◌≤◌, ◌<◌, length, Option}
 use Rattle.std.proofs.Math.Path.{refl, ap}
 use Rattle.std.proofs.Common.{◌∙◌, arith}
 use mathlib.Core.List.{List, [], ◌∷◌, ◌++◌}
 use Rattle.laws.specs.Marks.{free_at}
+use Rattle.laws.specs.Runs.{Packet, seek}
 use Rattle.laws.specs.Axis.{up_grows}
 use Rattle.laws.specs.Nest.{Loop, resumed}
 use Rattle.laws.specs.NestMoved.{no_turn, one_and_later}
@@ -13,10 +14,10 @@ use Rattle.packets.specs.Positions.{components, every_precinct}
 use Rattle.packets.proofs.MetOnce.{precincts_in}
 use Rattle.packets.specs.Inside.{Inside}
 use Rattle.types.specs.declared.cursor.Position.{Position}
-use Rattle.walks.specs.Prepared.{number_in}
-use Rattle.walks.specs.Walk.{index_by, Counted}
-use Rattle.walks.specs.Going.{Rest}
-use Rattle.walks.specs.Marks.{same-mark, fits-mark, has-mark, reads_mark}
+use Rattle.walks.specs.Prepared.{Counts, number_in}
+use Rattle.walks.specs.Walk.{Counted}
+use Rattle.walks.specs.Going.{Going, Rest, ◌then◌, turns, leaves, passes, finds}
+use Rattle.walks.specs.Marks.{mark_by, same-mark, fits-mark, has-mark, reads_mark}
 use Rattle.walks.specs.declared.walk.Walk.{Walk}
 
 -- the loops inside the two outer ones
@@ -65,7 +66,7 @@ pub record Stands (w : Walk) (l r c : ℕ) : Type 0 where
   pub comp_from : w.compno0 ≤ c
   pub comp_to : c < w.compno1
 
-module _ (s : Sheet) (g : Range) (counts : List ℕ) (w : Walk) (marks : List ℕ) (counted : Counted s g counts w marks) (l r c : ℕ) (t : Stands w l r c) where
+module _ (s : Sheet) (g : Range) (counts : Counts) (w : Walk) (marks : List ℕ) (counted : Counted s g counts w marks) (l r c : ℕ) (t : Stands w l r c) where
   -- the counts hold its own
   pub held : (r < 33) × (c < 16)
   held =
@@ -88,17 +89,43 @@ module _ (s : Sheet) (g : Range) (counts : List ℕ) (w : Walk) (marks : List �
           let q = counted.ranged in
           record { component = omega (arith, q.components, q.compno1, t.comp_to); resolution = precincts_in s c r (omega (arith, below)); precinct = below }
 
-      pub mark-fits : index_by w l r c k < 65536
+      pub mark-fits : mark_by w (place_of l r c k) < 65536
       mark-fits = fits-mark s g w marks counted.ranged counted.good (place_of l r c k) inside t.level.layer
 
-      pub mark-there : index_by w l r c k < length marks
+      pub mark-there : mark_by w (place_of l r c k) < length marks
       mark-there = has-mark s g w marks counted.ranged counted.good (place_of l r c k) inside t.level.layer
 
-      pub mark_is : index_by w l r c k ≡ index_of s.st (place_of l r c k)
+      pub mark_is : mark_by w (place_of l r c k) ≡ index_of s.st (place_of l r c k)
       mark_is = same-mark s g w marks counted.ranged counted.good (place_of l r c k) inside t.level.layer
 
       -- it is the next of its component's, and what is read of its mark is what the sheet's index finds
-      pub mark-read : (v i : ℕ) (f t : Bool) → i ≡ index_by w l r c k → f ≡ free_at v marks i → f ≡ t
+      pub mark-read : (v i : ℕ) (f t : Bool) → i ≡ mark_by w (place_of l r c k) → f ≡ free_at v marks i → f ≡ t
           → (left_k l r c k s g ≡ place_of l r c k ∷ left_k l r c (k + 1) s g) × (free_at v marks (index_of s.st (place_of l r c k)) ≡ t)
       mark-read v i f u a b d =
           (in_k s g l r c k below, reads_mark s g w marks counted.ranged counted.good (place_of l r c k) inside t.level.layer v i f u a b d)
+
+-- WHAT EVERY LOOP KEEPS: nothing is found yet, and the rest answers as the whole at entry
+abbrev pub Kept : Counts → Walk → List ℕ → Rest → Option Position → Rest → Type 0
+Kept counts w marks whole found rest = Going w.viewer (λ s g. Counted s g counts w marks) marks whole found rest
+
+-- where it stands at a layer and a resolution, and then others are left
+module _ (counts : Counts) (w : Walk) (marks : List ℕ) (whole later : Rest) {found : Option Position} (l r c k : ℕ) where
+  -- at a component, or at none
+  pub into_c : c < w.compno1 → Kept counts w marks whole found (level l r c k then later) → Kept counts w marks whole found (left_k l r c k then later)
+  into_c e i = turns _ _ _ _ _ _ i _ (λ s g h. in_c s g l r c k (rw h.ranged.compno1 at e))
+
+  pub past_c : w.compno1 ≤ c → Kept counts w marks whole found (level l r c k then later) → Kept counts w marks whole found later
+  past_c e i = leaves _ _ _ _ _ _ i (λ s g h. out_c s g l r c k (rw h.ranged.compno1 at e))
+
+  -- at one of its precincts, or at none
+  module _ (t : Stands w l r c) (n : ℕ) (e : n ≡ number_in counts r c) where
+    pub past_k : n ≤ k → Kept counts w marks whole found (left_k l r c k then later) → Kept counts w marks whole found (level l r (c + 1) 0 then later)
+    past_k a i = turns _ _ _ _ _ _ i _ (λ s g h. out_k s g l r c k (rw (count_is s g counts w marks h l r c t n e) at a))
+
+    -- whose mark is read
+    module _ (a : k < n) (i : ℕ) (f : Bool) (at : i ≡ mark_by w (place_of l r c k)) (read : f ≡ free_at w.viewer marks i) (kept : Kept counts w marks whole found (left_k l r c k then later)) where
+      pub next_k : f ≡ false → Kept counts w marks whole found (left_k l r c (k + 1) then later)
+      next_k z = passes _ _ _ _ _ _ kept _ _ (λ s g h. mark-read s g counts w marks h l r c t n e k a w.viewer i f false at read z)
+
+      pub found_k : f ≡ true → (s : Sheet) (g : Range) → Counted s g counts w marks → Packet (place_of l r c k) ≡ seek w.viewer (index_of s.st) marks (whole s g)
+      found_k z = finds _ _ _ _ _ _ kept _ _ (λ s g h. mark-read s g counts w marks h l r c t n e k a w.viewer i f true at read z)

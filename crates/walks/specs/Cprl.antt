@@ -10,6 +10,7 @@ use Rattle.types.specs.declared.order.Order.TheVariants.{Cprl as cprl}
 use Rattle.types.specs.declared.order.Range.{Range}
 use Rattle.packets.specs.Positions.{loops_of, layers, resolutions, components, rows, columns, the_precinct, number_at}
 use Rattle.types.specs.declared.cursor.Position.{Position}
+use Rattle.walks.specs.Prepared.{Prep}
 use Rattle.walks.specs.Going.{Rest}
 use Rattle.walks.specs.Walk.{Ready}
 use Rattle.walks.specs.AtPoint.{cell_from}
@@ -20,6 +21,9 @@ use Rattle.walks.specs.declared.walk.Walk.{Walk}
 -- what is to be searched from a place on
 abbrev pub entry : ℕ → ℕ → ℕ → ℕ → ℕ → Rest
 entry c y x r l s g = resumed (loops_of s g cprl) ((λ p. c) ∷ (λ p. y) ∷ (λ p. x) ∷ (λ p. r) ∷ number_at s ∷ (λ p. l) ∷ []) origin
+
+abbrev pub entry_at : Position → Rest
+entry_at p = entry p.compno p.y p.x p.resno p.layno
 
 -- the components from c on, and all of them
 abbrev pub on_from : Walk → ℕ → Rest
@@ -38,7 +42,7 @@ alone_by w c = part_by w w.resno0 w.resno1 c (c + 1)
 abbrev pub only : ℕ → Rest → Rest
 only c rest s g = rest s (alone g c)
 
-module _ (s : Sheet) (g : Range) (prep : List ℕ) (w : Walk) (marks : List ℕ) (h : Ready s g prep w marks) (c : ℕ) where
+module _ (s : Sheet) (g : Range) (prep : Prep) (w : Walk) (marks : List ℕ) (h : Ready s g prep w marks) (c : ℕ) where
   -- no component is left
   pub none_left : (y x r l : ℕ) → w.compno1 ≤ c → entry c y x r l s g ≡ []
   none_left y x r l e = no_turn (components g) _ (λ p. c) _ origin (rw (← h.ranged.compno1) e)

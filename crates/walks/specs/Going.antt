@@ -1,6 +1,6 @@
 -- What every loop of a walk for viewer v keeps, for every sheet and range that the walk is ready for: nothing is found yet, and what is still to be searched answers as what
 -- was to be searched at entry. What is left is a part in front and then a rest; a turn takes the part apart, passes it, or finds a packet in it. Assumes nothing.
-use Rattle.std.specs.Prelude.{◌≡◌, refl, true, false, ℕ}
+use Rattle.std.specs.Prelude.{◌≡◌, refl, true, false, ℕ, Option, None}
 use Rattle.std.proofs.Math.Path.{sym, ap}
 use Rattle.std.proofs.Common.{◌∙◌}
 use mathlib.Core.List.{List, [], ◌∷◌, ◌++◌, append_assoc}
@@ -10,8 +10,6 @@ use Rattle.packets.specs.Tile.{Sheet, index_of}
 use Rattle.types.specs.declared.order.Range.{Range}
 use Rattle.types.specs.declared.cursor.Position.{Position}
 use Rattle.walks.specs.Walk.{answer_of}
-use Rattle.walks.specs.declared.walk.Found.{Found}
-use Rattle.walks.specs.declared.walk.Found.TheVariants.{Nothing}
 
 -- the walk is ready for a sheet and a range
 abbrev pub Readiness : Type 1
@@ -26,15 +24,18 @@ infixr 5 ◌then◌
 unfoldable pub ◌then◌ : Rest → Rest → Rest
 ◌then◌ a b s g = a s g ++ b s g
 
+abbrev pub nothing : Rest
+nothing s g = []
+
 module _ (v : ℕ) (Ready : Readiness) (marks : List ℕ) (entry : Rest) where
-  pub record Going (f : Found) (rest : Rest) : Type 0 where
-    pub not_yet : f ≡ Nothing
+  pub record Going (f : Option Position) (rest : Rest) : Type 0 where
+    pub not_yet : f ≡ None
     pub same : (s : Sheet) (g : Range) → Ready s g → seek v (index_of s.st) marks (entry s g) ≡ seek v (index_of s.st) marks (rest s g)
 
-  pub starts : Going Nothing entry
+  pub starts : Going None entry
   starts = record { not_yet = refl; same = λ s g h. refl }
 
-  module _ {f : Found} (a : Rest) (w : Going f a) where
+  module _ {f : Option Position} (a : Rest) (w : Going f a) where
     -- what is left, written in another way
     pub onward : (b : Rest) → ((s : Sheet) (g : Range) → Ready s g → a s g ≡ b s g) → Going f b
     onward b e = record { not_yet = w.not_yet; same = λ s g h. w.same s g h ∙ ap (seek v (index_of s.st) marks) (e s g h) }
@@ -51,7 +52,7 @@ module _ (v : ℕ) (Ready : Readiness) (marks : List ℕ) (entry : Rest) where
     ends e s g h = rw w.not_yet (sym (w.same s g h ∙ ap (seek v (index_of s.st) marks) (e s g h)))
 
   -- THE PART IN FRONT
-  module _ {f : Found} (a o : Rest) (w : Going f (a then o)) where
+  module _ {f : Option Position} (a o : Rest) (w : Going f (a then o)) where
     -- written in another way
     pub turns : (b : Rest) → ((s : Sheet) (g : Range) → Ready s g → a s g ≡ b s g) → Going f (b then o)
     unfolding ◌then◌

@@ -1,4 +1,6 @@
 -- What the walks go by: numbers prepared for each component and resolution, and what a search answers.
+pub mod ByResolution
+pub mod Made
 pub mod Prepared
 pub mod Cells
 pub mod Prepare
@@ -28,4 +30,5 @@ pub mod Taking
 pub mod Listing
 pub mod Layers
 pub mod ByOrder
+pub mod ByPoints
 pub mod RunAll

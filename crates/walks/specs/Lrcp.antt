@@ -12,6 +12,7 @@ use Rattle.types.specs.declared.order.Order.TheVariants.{Lrcp as lrcp}
 use Rattle.types.specs.declared.order.Range.{Range}
 use Rattle.packets.specs.Positions.{loops_of, layers, resolutions}
 use Rattle.types.specs.declared.cursor.Position.{Position}
+use Rattle.walks.specs.Prepared.{Counts}
 use Rattle.walks.specs.Walk.{Counted}
 use Rattle.walks.specs.Going.{Rest}
 use Rattle.walks.specs.Counts.{inner, place_of, level}
@@ -20,6 +21,9 @@ use Rattle.walks.specs.declared.walk.Walk.{Walk}
 -- what is to be searched from a place on
 abbrev pub entry : ℕ → ℕ → ℕ → ℕ → Rest
 entry l r c k s g = resumed (loops_of s g lrcp) ((λ p. l) ∷ (λ p. r) ∷ (λ p. c) ∷ (λ p. k) ∷ []) origin
+
+abbrev pub entry_at : Position → Rest
+entry_at p = entry p.layno p.resno p.compno p.precno
 
 -- the layers from l on, and all of them
 abbrev pub on_from : Walk → ℕ → Rest
@@ -32,7 +36,7 @@ wholly w = on_from w 0
 unfoldable pub left_r : Walk → ℕ → ℕ → ℕ → ℕ → Rest
 left_r w l r c k s g = resumed (resolutions g ∷ inner s g) ((λ p. r) ∷ (λ p. c) ∷ (λ p. k) ∷ []) (place_of l 0 0 0) ++ on_from w (l + 1) s g
 
-module _ (s : Sheet) (g : Range) (counts : List ℕ) (w : Walk) (marks : List ℕ) (h : Counted s g counts w marks) (l r c k : ℕ) where
+module _ (s : Sheet) (g : Range) (counts : Counts) (w : Walk) (marks : List ℕ) (h : Counted s g counts w marks) (l r c k : ℕ) where
   pub out_l : w.layno1 ≤ l → entry l r c k s g ≡ []
   out_l e = no_turn (layers g) _ (λ p. l) _ origin (rw (← h.ranged.layno1) e)
 

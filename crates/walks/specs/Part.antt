@@ -2,6 +2,7 @@
 use Rattle.std.specs.Prelude.{ℕ, ◌≤◌, ◌≡◌, List}
 use Rattle.packets.specs.Tile.{Sheet}
 use Rattle.types.specs.declared.order.Range.{Range}
+use Rattle.walks.specs.Prepared.{Prep}
 use Rattle.walks.specs.Walk.{Ready}
 use Rattle.walks.specs.Turns.{in_play_lem}
 use Rattle.walks.specs.declared.walk.Walk.{Walk}
@@ -31,7 +32,7 @@ part_by w r0 r1 c0 c1 =
     }
 
 -- a walk that is ready for a range is ready for its parts
-pub ready_part : (s : Sheet) (g : Range) (prep : List ℕ) (w : Walk) (marks : List ℕ) → Ready s g prep w marks
+pub ready_part : (s : Sheet) (g : Range) (prep : Prep) (w : Walk) (marks : List ℕ) → Ready s g prep w marks
     → (r0 r1 c0 c1 : ℕ) → w.resno0 ≤ r0 → r1 ≤ w.resno1 → w.compno0 ≤ c0 → c1 ≤ w.compno1
     → (a b d e : ℕ) → r0 ≡ a → r1 ≡ b → c0 ≡ d → c1 ≡ e
     → Ready s (part_of g a b d e) prep (part_by w r0 r1 c0 c1) marks

@@ -18,7 +18,7 @@ use Rattle.packets.specs.Skips.{skip_rows, skip_columns}
 use Rattle.packets.specs.InPlay.{next_before, next_in_play, play_x, play_y, next_x, next_y}
 use Rattle.packets.proofs.InPlay.{next_x_grows, next_y_grows, next_x_ends, next_y_ends, in_play-passes}
 use Rattle.types.specs.declared.cursor.Position.{Position}
-use Rattle.walks.specs.Prepared.{point_of, at_row, range_by}
+use Rattle.walks.specs.Prepared.{Prep, point_of, at_row, range_by}
 use Rattle.walks.specs.Walk.{Ready}
 use Rattle.walks.specs.Going.{Rest}
 use Rattle.walks.specs.AtPoint.{cell_from}
@@ -34,6 +34,9 @@ inside_c s g = resolutions g ∷ the_precinct s ∷ layers g ∷ []
 -- what is to be searched from a place on
 abbrev pub entry : ℕ → ℕ → ℕ → ℕ → ℕ → Rest
 entry y x c r l s g = resumed (loops_of s g pcrl) ((λ p. y) ∷ (λ p. x) ∷ (λ p. c) ∷ (λ p. r) ∷ number_at s ∷ (λ p. l) ∷ []) origin
+
+abbrev pub entry_at : Position → Rest
+entry_at p = entry p.y p.x p.compno p.resno p.layno
 
 -- the rows from y on, and all of them
 abbrev pub on_from : Walk → ℕ → Rest
@@ -59,7 +62,7 @@ left_x w y x c r l s g =
 abbrev pub after_x : Walk → ℕ → ℕ → Rest
 after_x w y x s g = left_x w y (next_x s g everything (point_of 0 0 0 y) x) w.compno0 w.resno0 0 s g
 
-module _ (s : Sheet) (g : Range) (prep : List ℕ) (w : Walk) (marks : List ℕ) (h : Ready s g prep w marks) (y x c r l : ℕ) where
+module _ (s : Sheet) (g : Range) (prep : Prep) (w : Walk) (marks : List ℕ) (h : Ready s g prep w marks) (y x c r l : ℕ) where
   -- AT A POINT
   pub out_c : w.compno1 ≤ c → point y x c r l s g ≡ []
   out_c e = no_turn (components g) (inside_c s g) (λ p. c) _ (point_of 0 0 x y) (rw (← h.ranged.compno1) e)
@@ -126,7 +129,7 @@ module _ (s : Sheet) (g : Range) (prep : List ℕ) (w : Walk) (marks : List ℕ)
         (omega (arith, next_x_ends s g everything p x right')))
 
 -- the next column and row in play, by the walk's own numbers; and they grow
-module _ (s : Sheet) (g : Range) (prep : List ℕ) (w : Walk) (marks : List ℕ) (ready : Ready s g prep w marks) where
+module _ (s : Sheet) (g : Range) (prep : Prep) (w : Walk) (marks : List ℕ) (ready : Ready s g prep w marks) where
   pub column_is : (y x z : ℕ) → z ≡ next_before w.tx1 (range_by w.resno0 w.resno1 w.compno0 w.compno1) (play_x s (at_row y)) (step_x s) x
       → (z ≡ next_x s g everything (point_of 0 0 0 y) x) × (x < z)
   unfolding next_in_play

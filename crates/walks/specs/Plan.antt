@@ -1,5 +1,5 @@
 -- The plan of a progression, made once: its order and its walk; what it is planned from, and what it goes over. Assumes nothing.
-use Rattle.std.specs.Prelude.{◌≡◌, refl, Bool, true, false, cond, ◌&&◌, ℕ, ◌≤◌, ◌<◌, ltb}
+use Rattle.std.specs.Prelude.{◌≡◌, refl, Bool, true, false, cond, ◌&&◌, ℕ, ◌≤◌, ◌<◌, ltb, Option}
 use Rattle.std.proofs.Common.{sym, ap, ◌∙◌, true≢false, arith, lt-ltb}
 use mathlib.Core.List.Memᴰ.{head as here}
 use mathlib.Core.List.Memᴰ.{not-nil as not_in_nil}
@@ -7,7 +7,8 @@ use mathlib.Core.List.{List, [], ◌∷◌, Memᴰ as In}
 use Rattle.laws.specs.Cases.{split, and_true, and_both}
 use Rattle.laws.specs.Means.{leb-means}
 use Rattle.laws.specs.Below.{max-at, max-least}
-use Rattle.packets.specs.Tile.{Sheet, res_of, max_res, stride_c, stride_r, stride_l}
+use Rattle.laws.specs.Runs.{seek}
+use Rattle.packets.specs.Tile.{Sheet, index_of, res_of, max_res, stride_c, stride_r, stride_l}
 use Rattle.types.specs.Orders.{range_of, order_of, by_points, components_good}
 use Rattle.types.specs.declared.order.Order.{Order}
 use Rattle.types.specs.declared.order.Order.TheVariants.{Lrcp as lrcp, Rlcp as rlcp, Rpcl as rpcl, Pcrl as pcrl, Cprl as cprl, NoPositions as other}
@@ -29,8 +30,9 @@ use Rattle.types.specs.declared.state.Progression.{Progression}
 use Rattle.packets.specs.Calls.{after}
 use Rattle.types.specs.declared.cursor.Position.{Position}
 use Rattle.types.specs.declared.cursor.Place.TheVariants as place
+use Rattle.walks.specs.Prepared.{Prep, Counts}
 use Rattle.walks.specs.FromSound.{AllFilled, sound_play}
-use Rattle.walks.specs.Walk.{Ranged, Counted, Ready}
+use Rattle.walks.specs.Walk.{answer_of, Ranged, Counted, Ready}
 use Rattle.walks.specs.Counting.{AllCounted}
 use Rattle.walks.specs.Search.{left_from, first_of, next_try, Startable, some, Ordered, from_first, from_next, next-startable, next-small}
 use Rattle.walks.specs.declared.walk.Walk.{Walk}
@@ -81,6 +83,15 @@ pub record Planned (st : State) (table : List ℕ) (k : ℕ) (plan : Plan) (mark
   pub known : k < st.progressions
   pub order : plan.order ≡ order_in st (change_of st k)
   pub walk : plan.walk ≡ walk_for st (goes_over st (change_of st k)) plan.walk.viewer
+
+abbrev pub SomePlanned : State → List ℕ → Plan → List ℕ → Type 0
+SomePlanned st table plan marks = (k : ℕ) × Planned st table k plan marks
+
+-- what a search of it finds from p on: the first free of what its order has left there
+abbrev pub SearchedFrom : State → List ℕ → Plan → List ℕ → Position → Option Position → Type 0
+SearchedFrom st table plan marks p found =
+    (k : ℕ) → Planned st table k plan marks
+    → answer_of found ≡ seek plan.walk.viewer (index_of st) marks (left_from (sheet_at st table) (goes_over st (change_of st k)) plan.order p)
 
 -- a walk that was made for a viewer is his
 pub planned_walk : (st : State) (g : Range) (w : Walk) (v : ℕ) → w ≡ walk_for st g v → w ≡ walk_for st g w.viewer
@@ -161,7 +172,7 @@ module _ (st : State) (table : List ℕ) (k : ℕ) (plan : Plan) (marks : List �
     planned-ordered = record { ranged = ranged; good = good; has = good-has sheet range plan.order n fine }
 
     -- its precincts are counted
-    pub planned-counted : {counts : List ℕ} → AllCounted st table counts → Counted sheet range counts plan.walk marks
+    pub planned-counted : {counts : Counts} → AllCounted st table counts → Counted sheet range counts plan.walk marks
     planned-counted a =
         record {
           ranged = ranged;
@@ -183,7 +194,7 @@ module _ (st : State) (table : List ℕ) (k : ℕ) (plan : Plan) (marks : List �
   pub some_order : by_points plan.order ≡ true → plan.order ≡ other → ⊥
   some_order b e = true≢false (sym b ∙ ap by_points e)
 
-  pub planned-ready : {prep : List ℕ} → AllFilled st table prep → by_points plan.order ≡ true → Ready sheet range prep plan.walk marks
+  pub planned-ready : {prep : Prep} → AllFilled st table prep → by_points plan.order ≡ true → Ready sheet range prep plan.walk marks
   planned-ready {prep} p b =
       let n = some_order b in
       record {

@@ -12,6 +12,7 @@ use Rattle.types.specs.declared.order.Order.TheVariants.{Rlcp as rlcp}
 use Rattle.types.specs.declared.order.Range.{Range}
 use Rattle.packets.specs.Positions.{loops_of, layers, resolutions}
 use Rattle.types.specs.declared.cursor.Position.{Position}
+use Rattle.walks.specs.Prepared.{Counts}
 use Rattle.walks.specs.Walk.{Counted}
 use Rattle.walks.specs.Going.{Rest}
 use Rattle.walks.specs.Counts.{inner, place_of, level}
@@ -20,6 +21,9 @@ use Rattle.walks.specs.declared.walk.Walk.{Walk}
 -- what is to be searched from a place on
 abbrev pub entry : ℕ → ℕ → ℕ → ℕ → Rest
 entry r l c k s g = resumed (loops_of s g rlcp) ((λ p. r) ∷ (λ p. l) ∷ (λ p. c) ∷ (λ p. k) ∷ []) origin
+
+abbrev pub entry_at : Position → Rest
+entry_at p = entry p.resno p.layno p.compno p.precno
 
 -- the resolutions from r on, and all of them
 abbrev pub on_from : Walk → ℕ → Rest
@@ -32,7 +36,7 @@ wholly w = on_from w w.resno0
 unfoldable pub left_l : Walk → ℕ → ℕ → ℕ → ℕ → Rest
 left_l w r l c k s g = resumed (layers g ∷ inner s g) ((λ p. l) ∷ (λ p. c) ∷ (λ p. k) ∷ []) (place_of 0 r 0 0) ++ on_from w (r + 1) s g
 
-module _ (s : Sheet) (g : Range) (counts : List ℕ) (w : Walk) (marks : List ℕ) (h : Counted s g counts w marks) (r l c k : ℕ) where
+module _ (s : Sheet) (g : Range) (counts : Counts) (w : Walk) (marks : List ℕ) (h : Counted s g counts w marks) (r l c k : ℕ) where
   pub out_r : w.resno1 ≤ r → entry r l c k s g ≡ []
   out_r e = no_turn (resolutions g) _ (λ p. r) _ origin (rw (← h.ranged.resno1) e)
 

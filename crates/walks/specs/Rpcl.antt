@@ -12,6 +12,7 @@ use Rattle.types.specs.declared.order.Order.TheVariants.{Rpcl as rpcl}
 use Rattle.types.specs.declared.order.Range.{Range}
 use Rattle.packets.specs.Positions.{loops_of, layers, resolutions, components, rows, columns, the_precinct, number_at}
 use Rattle.types.specs.declared.cursor.Position.{Position}
+use Rattle.walks.specs.Prepared.{Prep}
 use Rattle.walks.specs.Going.{Rest}
 use Rattle.walks.specs.Walk.{Ready}
 use Rattle.walks.specs.AtPoint.{cell_from}
@@ -22,6 +23,9 @@ use Rattle.walks.specs.declared.walk.Walk.{Walk}
 -- what is to be searched from a place on
 abbrev pub entry : ℕ → ℕ → ℕ → ℕ → ℕ → Rest
 entry r y x c l s g = resumed (loops_of s g rpcl) ((λ p. r) ∷ (λ p. y) ∷ (λ p. x) ∷ (λ p. c) ∷ number_at s ∷ (λ p. l) ∷ []) origin
+
+abbrev pub entry_at : Position → Rest
+entry_at p = entry p.resno p.y p.x p.compno p.layno
 
 -- the resolutions from r on, and all of them
 abbrev pub on_from : Walk → ℕ → Rest
@@ -40,7 +44,7 @@ alone_by w r = part_by w r (r + 1) w.compno0 w.compno1
 abbrev pub only : ℕ → Rest → Rest
 only r rest s g = rest s (alone g r)
 
-module _ (s : Sheet) (g : Range) (prep : List ℕ) (w : Walk) (marks : List ℕ) (h : Ready s g prep w marks) (r : ℕ) where
+module _ (s : Sheet) (g : Range) (prep : Prep) (w : Walk) (marks : List ℕ) (h : Ready s g prep w marks) (r : ℕ) where
   -- no resolution is left
   pub none_left : (y x c l : ℕ) → w.resno1 ≤ r → entry r y x c l s g ≡ []
   none_left y x c l e = no_turn (resolutions g) _ (λ p. r) _ origin (rw (← h.ranged.resno1) e)

@@ -18,7 +18,7 @@ use Rattle.packets.proofs.Once.{index_small}
 use Rattle.packets.specs.Resume.{resume_fresh, resume_behind}
 use Rattle.types.specs.declared.cursor.Position.{Position}
 use Rattle.types.specs.declared.cursor.Place.TheVariants as place
-use Rattle.walks.specs.Walk.{Ranged, Counted, SomeCounted}
+use Rattle.walks.specs.Walk.{Ranged}
 use Rattle.walks.specs.declared.walk.Walk.{Walk}
 
 -- where the loops of an order start whose first position is p: precincts are counted in orders 0 and 1, and met at a point in the others
@@ -82,12 +82,22 @@ is_order other = false
 pub some : {x o : Order} → x ≡ o → is_order o ≡ true → x ≡ other → ⊥
 some e t z = true≢false (sym t ∙ ap is_order (sym e ∙ z))
 
--- what a search by counts asks for, unless there is no order
-abbrev pub CountedFor : Order → Sheet → Range → List ℕ → Walk → List ℕ → Type 0
-CountedFor o s g counts w marks = (o ≡ other → ⊥) → Counted s g counts w marks
+-- one that is neither by points nor by counts is none; by points there are three
+pub other_counts : (o : Order) → by_points o ≡ false → (o ≡ lrcp → ⊥) → (o ≡ rlcp → ⊥) → o ≡ other
+other_counts lrcp b f g = absurd (f refl)
+other_counts rlcp b f g = absurd (g refl)
+other_counts rpcl b f g = absurd (true≢false b)
+other_counts pcrl b f g = absurd (true≢false b)
+other_counts cprl b f g = absurd (true≢false b)
+other_counts other b f g = refl
 
-abbrev pub SomeCountedFor : Order → List ℕ → Walk → List ℕ → Type 0
-SomeCountedFor o counts w marks = (o ≡ other → ⊥) → SomeCounted counts w marks
+pub three_points : (o : Order) → by_points o ≡ true → (o ≡ rpcl → ⊥) → (o ≡ pcrl → ⊥) → (o ≡ cprl → ⊥) → ⊥
+three_points lrcp b f g h = true≢false (sym b)
+three_points rlcp b f g h = true≢false (sym b)
+three_points rpcl b f g h = f refl
+three_points pcrl b f g h = g refl
+three_points cprl b f g h = h refl
+three_points other b f g h = true≢false (sym b)
 
 module _ (s : Sheet) (g : Range) (w : Walk) (marks : List ℕ) where
   -- a fresh cursor: everything is left

@@ -1,5 +1,5 @@
 -- What a step takes: from a sound state to a planned progression, and from what was found to what is marked. Assumes nothing.
-use Rattle.std.specs.Prelude.{◌≡◌, refl, ℕ, zero, suc, ◌*◌, ◌≤◌, ◌<◌, get_or, replicate}
+use Rattle.std.specs.Prelude.{◌≡◌, ℕ, zero, suc, ◌*◌, ◌≤◌, ◌<◌, Option, Some, None}
 use Rattle.std.proofs.Common.{sym, ◌∙◌, arith}
 use Rattle.std.proofs.Math.Path.{ap}
 use mathlib.Core.List.{List, Memᴰ as In}
@@ -19,15 +19,7 @@ use Rattle.types.specs.declared.cursor.Place.{Place}
 use Rattle.walks.specs.Walk.{answer_of, index_by}
 use Rattle.walks.specs.Marks.{mark_by}
 use Rattle.walks.specs.Plan.{Planned}
-use Rattle.walks.specs.declared.walk.Found.{Found}
-use Rattle.walks.specs.declared.walk.Found.TheVariants as found
 use Rattle.walks.specs.declared.plan.Plan.{Plan}
-
--- an array of zeros
-pub cleared : (n i : ℕ) → ◌≡◌ {A = ℕ} (get_or (replicate n 0) i 0) 0
-cleared zero i = refl
-cleared (suc n) zero = refl
-cleared (suc n) (suc i) = cleared n i
 
 grows : (b a : ℕ) → 1 ≤ b → a ≤ b * a
 grows zero a h = omega arith
@@ -49,13 +41,13 @@ module _ (st : State) (table marks : List ℕ) (d : Sound st table marks) where
       (omega (arith, d.few), omega (arith, d.few))
 
 -- the marks that are left: what was found is marked for viewer v
-abbrev pub marked_by : ℕ → State → List ℕ → Found → List ℕ
-marked_by v st marks (found.At p) = mark v (index_of st) marks p
-marked_by v st marks found.Nothing = marks
+abbrev pub marked_by : ℕ → State → List ℕ → Option Position → List ℕ
+marked_by v st marks (Some p) = mark v (index_of st) marks p
+marked_by v st marks None = marks
 
 -- a planned progression whose search found p: its mark stands where the walk says, and is one of those needed
 module _ (st : State) (table marks : List ℕ) (k : ℕ) (plan : Plan) (d : Planned st table k plan marks) (q : Place) where
-  pub mark-at : (v : ℕ) (f : Found) (p : Position) → f ≡ found.At p → answer_of f ≡ seek v (index_of st) marks (after q (positions_for st table k))
+  pub mark-at : (v : ℕ) (f : Option Position) (p : Position) → f ≡ Some p → answer_of f ≡ seek v (index_of st) marks (after q (positions_for st table k))
       → (mark_by plan.walk p ≡ index_of st p) × (index_of st p < needed st)
   unfolding index_by index_of
   mark-at v f p e h =

@@ -1,6 +1,6 @@
 -- A walk that is ready, at a point of its tile: what is in play, and that what is met is one of the sheet's. Assumes nothing.
 use Rattle.std.proofs.Math.Path.{◌≡◌, refl}
-use Rattle.std.specs.Prelude.{Bool, List, ℕ, ◌+◌, ◌≤◌, ◌<◌}
+use Rattle.std.specs.Prelude.{Bool, List, ℕ, ◌+◌, ◌≤◌, ◌<◌, Some, None}
 use Rattle.std.proofs.Math.Bool.{true, false, cond}
 use native.Mathlib.Omega.{arith}
 use Rattle.packets.specs.Tile.{Sheet, precincts}
@@ -10,32 +10,31 @@ use Rattle.packets.specs.Met.{MetAt}
 use Rattle.packets.proofs.MetOnce.{met-small, precincts_in}
 use Rattle.packets.specs.Inside.{Inside}
 use Rattle.types.specs.declared.cursor.Position.{Position}
-use Rattle.walks.specs.Prepared.{InPlay, AtPoint, point_of, cell_of}
+use Rattle.walks.specs.Prepared.{Prep, InPlay, AtPoint, point_of, cell_of}
 use Rattle.walks.specs.InRow.{AtRow}
 use Rattle.walks.specs.Walk.{Ready}
-use Rattle.walks.specs.declared.cell.Cell.TheVariants.{At, Nothing}
 use Rattle.walks.specs.declared.walk.Walk.{Walk}
 
 -- what a cell says
 module _ (s : Sheet) (r c x y : ℕ) where
-  pub cell-met : (k : ℕ) → cell_of s r c x y ≡ At k → (met s (point_of r c x y) ≡ true) × (k ≡ number_at s (point_of r c x y))
+  pub cell-met : (k : ℕ) → cell_of s r c x y ≡ Some k → (met s (point_of r c x y) ≡ true) × (k ≡ number_at s (point_of r c x y))
   unfolding cell_of
   cell-met k e = by (met s (point_of r c x y)) e
     where
-      by : (t : Bool) → cond t (At (number_at s (point_of r c x y))) Nothing ≡ At k → (t ≡ true) × (k ≡ number_at s (point_of r c x y))
+      by : (t : Bool) → cond t (Some (number_at s (point_of r c x y))) None ≡ Some k → (t ≡ true) × (k ≡ number_at s (point_of r c x y))
       by true e = (refl, cc)
       by false e = absurd (let z : ◌≡◌ {A = ℕ} 0 1 = cc in let n : ⊥ = omega arith in n)
 
-  pub cell_missed : cell_of s r c x y ≡ Nothing → met s (point_of r c x y) ≡ false
+  pub cell_missed : cell_of s r c x y ≡ None → met s (point_of r c x y) ≡ false
   unfolding cell_of
   cell_missed e = by (met s (point_of r c x y)) e
     where
-      by : (t : Bool) → cond t (At (number_at s (point_of r c x y))) Nothing ≡ Nothing → t ≡ false
+      by : (t : Bool) → cond t (Some (number_at s (point_of r c x y))) None ≡ None → t ≡ false
       by true e = absurd (let z : ◌≡◌ {A = ℕ} 0 1 = cc in let n : ⊥ = omega arith in n)
       by false e = refl
 
 -- a part of what is prepared is prepared
-pub play_part : (s : Sheet) (prep : List ℕ) (r0 r1 c0 c1 a b d e : ℕ) → InPlay s prep r0 r1 c0 c1 → r0 ≤ a → b ≤ r1 → c0 ≤ d → e ≤ c1 → InPlay s prep a b d e
+pub play_part : (s : Sheet) (prep : Prep) (r0 r1 c0 c1 a b d e : ℕ) → InPlay s prep r0 r1 c0 c1 → r0 ≤ a → b ≤ r1 → c0 ≤ d → e ≤ c1 → InPlay s prep a b d e
 play_part s prep r0 r1 c0 c1 a b d e t h i j k =
     let m = t.resolutions in
     let n = t.components in
@@ -62,7 +61,7 @@ pub record Stands (w : Walk) (r c x y : ℕ) : Type 0 where
   pub top : w.ty0 ≤ y
   pub bottom : y < w.ty1
 
-module _ (s : Sheet) (g : Range) (prep : List ℕ) (w : Walk) (marks : List ℕ) (ready : Ready s g prep w marks) where
+module _ (s : Sheet) (g : Range) (prep : Prep) (w : Walk) (marks : List ℕ) (ready : Ready s g prep w marks) where
   -- what is in play for resolutions a to b of components d to e
   pub in_play_lem : (a b d e : ℕ) → w.resno0 ≤ a → b ≤ w.resno1 → w.compno0 ≤ d → e ≤ w.compno1 → InPlay s prep a b d e
   in_play_lem a b d e h i j k =

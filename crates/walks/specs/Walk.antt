@@ -1,23 +1,21 @@
 -- What a walk goes over, and what it answers.
-use Rattle.std.specs.Prelude.{ℕ, ◌+◌, ◌*◌, ◌≤◌, ◌<◌, ◌≡◌, List, length}
+use Rattle.std.specs.Prelude.{ℕ, ◌+◌, ◌*◌, ◌≤◌, ◌<◌, ◌≡◌, List, length, Option, Some, None}
 use Rattle.laws.specs.Runs.{Answer, Packet, Ended}
 use Rattle.packets.specs.Tile.{Sheet, stride_c, stride_r, stride_l, needed, precincts}
 use Rattle.types.specs.declared.order.Range.{Range}
 use Rattle.packets.specs.Good.{Good}
 use Rattle.types.specs.declared.cursor.Position.{Position}
-use Rattle.walks.specs.Prepared.{InPlay, number_in}
+use Rattle.walks.specs.Prepared.{Prep, Counts, InPlay, number_in}
 use Rattle.walks.specs.declared.walk.Walk.{Walk}
-use Rattle.walks.specs.declared.walk.Found.{Found}
-use Rattle.walks.specs.declared.walk.Found.TheVariants as found
 
 -- where the mark of a packet stands, by the walk's strides
 unfoldable pub index_by : Walk → ℕ → ℕ → ℕ → ℕ → ℕ
 index_by w l r c k = l * w.stride_l + r * w.stride_r + c * w.stride_c + k
 
 -- what a walk found, in the words of the laws of runs
-abbrev pub answer_of : Found → Answer Position
-answer_of (found.At p) = Packet p
-answer_of found.Nothing = Ended
+abbrev pub answer_of : Option Position → Answer Position
+answer_of (Some p) = Packet p
+answer_of None = Ended
 
 -- the walk's numbers are those of the sheet and the range, and the marks suffice
 pub record Ranged (s : Sheet) (g : Range) (w : Walk) (marks : List ℕ) : Type 0 where
@@ -61,27 +59,27 @@ ranged_long s g w marks other e q =
     }
 
 -- a walk by points: its ranges are prepared too
-pub record Ready (s : Sheet) (g : Range) (prep : List ℕ) (w : Walk) (marks : List ℕ) : Type 0 where
+pub record Ready (s : Sheet) (g : Range) (prep : Prep) (w : Walk) (marks : List ℕ) : Type 0 where
   pub ranged : Ranged s g w marks
   pub play : InPlay s prep g.resno0 g.resno1 g.compno0 g.compno1
 
-pub ready_long : (s : Sheet) (g : Range) (prep : List ℕ) (w : Walk) (marks other : List ℕ) → length other ≡ length marks → Ready s g prep w marks → Ready s g prep w other
+pub ready_long : (s : Sheet) (g : Range) (prep : Prep) (w : Walk) (marks other : List ℕ) → length other ≡ length marks → Ready s g prep w marks → Ready s g prep w other
 ready_long s g prep w marks other e q = record { ranged = ranged_long s g w marks other e q.ranged; play = q.play }
 
-abbrev pub SomeReady : List ℕ → Walk → List ℕ → Type 0
+abbrev pub SomeReady : Prep → Walk → List ℕ → Type 0
 SomeReady prep w marks = (s : Sheet) × ((g : Range) × Ready s g prep w marks)
 
 -- a walk by precinct numbers: its precincts are counted too (that the sheet has the components is said by `ranged`)
-pub record Counted (s : Sheet) (g : Range) (counts : List ℕ) (w : Walk) (marks : List ℕ) : Type 0 where
+pub record Counted (s : Sheet) (g : Range) (counts : Counts) (w : Walk) (marks : List ℕ) : Type 0 where
   pub ranged : Ranged s g w marks
   pub good : Good s
   pub resolutions : g.resno1 ≤ 33
   pub components : g.compno1 ≤ 16
   pub number : (r c : ℕ) → g.resno0 ≤ r → r < g.resno1 → g.compno0 ≤ c → c < g.compno1 → number_in counts r c ≡ precincts s c r
 
-pub counted_long : (s : Sheet) (g : Range) (counts : List ℕ) (w : Walk) (marks other : List ℕ) → length other ≡ length marks → Counted s g counts w marks → Counted s g counts w other
+pub counted_long : (s : Sheet) (g : Range) (counts : Counts) (w : Walk) (marks other : List ℕ) → length other ≡ length marks → Counted s g counts w marks → Counted s g counts w other
 counted_long s g counts w marks other e q =
     record { ranged = ranged_long s g w marks other e q.ranged; good = q.good; resolutions = q.resolutions; components = q.components; number = q.number }
 
-abbrev pub SomeCounted : List ℕ → Walk → List ℕ → Type 0
+abbrev pub SomeCounted : Counts → Walk → List ℕ → Type 0
 SomeCounted counts w marks = (s : Sheet) × ((g : Range) × Counted s g counts w marks)

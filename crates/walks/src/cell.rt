@@ -4,53 +4,42 @@ ghost use Rattle.packets.specs.Tile.{Sheet};
 ghost use Rattle.walks.specs.Prepared.{AtPoint, SomePoint, cell_of};
 ghost use Rattle.walks.specs.InRow.{row_of, AtRow, SomeRow, RowPoint, SomeRowPoint};
 
-use crate::prepared::{Along, along_x, along_y, width_at};
+use crate::by_resolution::ByResolution;
+use crate::prepared::Prepared;
 
-#[derive(Clone, Copy)]
-pub(crate) enum Cell {
-    At(u32),
-    Nothing,
-}
-
-// One more than the number of the first precinct of the row y of component c at resolution r; 0 where the row meets none.
-pub(crate) fn row_at(prep: &[u32; Along::MAX_NUMBERS], r: u32, c: u32, y: u32) -> u32
+// The first precinct of the row y of component c at resolution r, if the row meets one.
+pub(crate) fn row_at(prep: &ByResolution<Prepared>, r: u32, c: u32, y: u32) -> Option<u32>
     requires { SomeRow prep.now r (r + 1) c (c + 1) y }
     ensures { (s : Sheet) → AtRow s prep.now r (r + 1) c (c + 1) y → result ≡ row_of s r c y }
 {
-    let width = width_at(prep, r, c);
-    if width == 0 {
-        return 0;
+    let p = prep.at(r, c).kept()?;
+    if !p.y.hits(y) {
+        return None;
     }
-    let rows = along_y(prep, r, c);
-    if !rows.hits(y) {
-        return 0;
-    }
-    rows.column(y) * width + 1
+    Some(p.y.column(y) * p.width)
 }
 
-// The precinct of component c at resolution r that is met at x in a row, whose first is first - 1; 0 where it meets none.
+// The precinct of component c at resolution r that is met at x in a row, if one is; first tells what the row meets (row_at).
 pub(crate) fn cell_from(
-    prep: &[u32; Along::MAX_NUMBERS],
-    first: u32,
+    prep: &ByResolution<Prepared>,
+    first: Option<u32>,
     r: u32,
     c: u32,
     x: u32,
-) -> Cell
+) -> Option<u32>
     requires { SomeRowPoint prep.now first r c x }
     ensures { (s : Sheet) (y : _) → RowPoint s prep.now first r c x y → result ≡ cell_of s r c x y }
 {
-    if first == 0 {
-        return Cell::Nothing;
+    let start = first?;
+    let p = prep.at(r, c).kept()?;
+    if !p.x.hits(x) {
+        return None;
     }
-    let columns = along_x(prep, r, c);
-    if !columns.hits(x) {
-        return Cell::Nothing;
-    }
-    Cell::At(columns.column(x) + (first - 1))
+    Some(p.x.column(x) + start)
 }
 
-// The precinct of component c at resolution r that is met at (x, y).
-pub(crate) fn cell_at(prep: &[u32; Along::MAX_NUMBERS], r: u32, c: u32, x: u32, y: u32) -> Cell
+// The precinct of component c at resolution r that is met at (x, y), if one is.
+pub(crate) fn cell_at(prep: &ByResolution<Prepared>, r: u32, c: u32, x: u32, y: u32) -> Option<u32>
     requires { SomePoint prep.now r c x y }
     ensures { (s : Sheet) → AtPoint s prep.now r c x y → result ≡ cell_of s r c x y }
 {

@@ -1,42 +1,40 @@
-// The number of precincts of each component at each resolution, counted once (specs Counting).
-ghost use Rattle.std.specs.Prelude.{◌≡◌, length};
-ghost use Rattle.walks.specs.Counting.{Entries, Written, AllEntries, AllWritten};
+// The number of precincts of each component at each resolution, counted once.
+ghost use Rattle.std.specs.Prelude.{ℕ, List};
+ghost use Rattle.packets.specs.Meaning.{Sound};
+ghost use Rattle.walks.specs.ByResolution.{IsBlank};
+ghost use Rattle.walks.specs.Made.{product};
+ghost use Rattle.walks.specs.Counting.{AllCounted};
 
-use crate::prepared::put_number;
+use crate::by_resolution::ByResolution;
+use crate::entries::{Making, make_all};
 use types::state::State;
 use types::table::Entry;
 
-// Those of component c, which has n resolutions, and whose entries stand in the table from number base on.
-fn count_component(
-    counts: &mut [u32; State::MAX_ENTRIES],
-    table: &[u8],
-    base: usize,
-    c: u32,
-    n: u32,
-)
-    requires { (length counts.old ≡ 528) × Entries table.now base c n }
-    ensures { Written table.now base c counts.old counts.new n }
-{
-    let mut r: u32 = 0;
-    'rs: while r < n {
-        let e = Entry::at(table, base + (r as usize));
-        put_number(counts, r, c, e.width * e.height);
-        r += 1;
+// Counts the precincts of an entry.
+#[derive(Clone, Copy)]
+struct Count;
+
+impl Making for Count {
+    type Made = u32;
+
+    ghost of = { λ st c. record {} };
+
+    ghost made = { λ m level e. product e };
+
+    fn of(_st: &State, _c: u32) -> Self {
+        Count
+    }
+
+    fn make(self, _level: u32, e: Entry) -> u32 {
+        e.width * e.height
     }
 }
 
-// Those of all components.
-pub(crate) fn count_precincts(counts: &mut [u32; State::MAX_ENTRIES], table: &[u8], st: State)
-    requires { (length counts.old ≡ 528) × AllEntries st table.now }
-    ensures { AllWritten st table.now counts.old counts.new st.components }
+// Those of a sound state.
+pub(crate) fn count_precincts(counts: &mut ByResolution<u32>, table: &[u8], st: &State)
+    requires sound { (marks : List ℕ) × Sound st.now table.now marks }
+    requires blank { IsBlank 0 counts.old }
+    ensures { AllCounted st.now table.now counts.new }
 {
-    let components = st.components;
-    let mut base: usize = 0;
-    let mut c: u32 = 0;
-    'cs: while c < components {
-        let n = st.resolutions[c as usize];
-        count_component(counts, table, base, c, n);
-        base += n as usize;
-        c += 1;
-    }
+    make_all::<Count>(counts, table, st);
 }

@@ -4,89 +4,63 @@ ghost use Rattle.laws.specs.Runs.{seek};
 ghost use Rattle.packets.specs.Tile.{Sheet, index_of};
 ghost use Rattle.types.specs.declared.order.Range.{Range};
 ghost use Rattle.walks.specs.Walk.{answer_of, Ready, SomeReady};
-ghost use Rattle.walks.specs.Cprl.{entry};
+ghost use Rattle.walks.specs.Cprl.{entry_at};
 
-use crate::cell::{Cell, cell_at};
+use crate::by_resolution::ByResolution;
+use crate::cell::cell_at;
 use crate::next::{next_column, next_row};
-use crate::prepared::Along;
-use crate::walk::{Found, Walk, index};
+use crate::prepared::Prepared;
+use crate::walk::Walk;
 use types::cursor::Position;
 use types::mark::is_free;
 
-// The first free position from (c, y, x, r, l) on.
+// The first free position from a place on: from its component, row, column, resolution and layer.
 pub(crate) fn cprl(
     marks: &[u8],
-    prep: &[u32; Along::MAX_NUMBERS],
+    prep: &ByResolution<Prepared>,
     w: Walk,
-    c_from: u32,
-    y_from: u32,
-    x_from: u32,
-    r_from: u32,
-    l_from: u32,
-) -> Found
+    from: Position,
+) -> Option<Position>
     requires some_ready { SomeReady prep.now w marks.now }
-    requires compno0_le_c_from { (w.compno0 ≤ c_from) × (w.ty0 ≤ y_from) × (w.tx0 ≤ x_from) × (w.resno0 ≤ r_from) }
-    ensures { (s : Sheet) (g : Range) → Ready s g prep.now w marks.now → answer_of result ≡ seek w.viewer (index_of s.st) marks.now (entry c_from y_from x_from r_from l_from s g) }
+    requires compno0_le_from { (w.compno0 ≤ from.compno) × (w.ty0 ≤ from.y) × (w.tx0 ≤ from.x) × (w.resno0 ≤ from.resno) }
+    ensures { (s : Sheet) (g : Range) → Ready s g prep.now w marks.now → answer_of result ≡ seek w.viewer (index_of s.st) marks.now (entry_at from s g) }
 {
-    let layno1 = w.layno1;
-    let resno0 = w.resno0;
-    let resno1 = w.resno1;
-    let compno1 = w.compno1;
-    let tx0 = w.tx0;
-    let ty0 = w.ty0;
-    let tx1 = w.tx1;
-    let ty1 = w.ty1;
-    let mut y_at = y_from;
-    let mut x_at = x_from;
-    let mut r_at = r_from;
-    let mut l_at = l_from;
-    let mut found = Found::Nothing;
-    let mut c = c_from;
-    'search: while c < compno1 {
-        let mut y = y_at;
-        'ys: while y < ty1 {
-            let mut x = x_at;
-            'xs: while x < tx1 {
-                let mut r = r_at;
-                'rs: while r < resno1 {
-                    match cell_at(prep, r, c, x, y) {
-                        Cell::At(k) => {
-                            let mut l = l_at;
-                            'ls: while l < layno1 {
-                                let i = index(w, l, r, c, k);
-                                if is_free(marks, i, w.viewer) {
-                                    found = Found::At(Position {
-                                        layno: l,
-                                        resno: r,
-                                        compno: c,
-                                        precno: k,
-                                        x,
-                                        y,
-                                    });
-                                    break 'search;
-                                }
-                                l += 1;
+    // where the loops start: at the place, and when they come again at their first numbers
+    let mut at = from;
+    let mut found = None;
+    'search: for c in at.compno..w.compno1 {
+        let one = w.part(w.resno0, w.resno1, c, c + 1);
+        let mut y = at.y;
+        // a while: y jumps to the next row in which something is met, and x to the next column
+        'ys: while y < w.ty1 {
+            let mut x = at.x;
+            'xs: while x < w.tx1 {
+                'rs: for r in at.resno..w.resno1 {
+                    if let Some(k) = cell_at(prep, r, c, x, y) {
+                        'ls: for l in at.layno..w.layno1 {
+                            let p = Position {
+                                layno: l,
+                                resno: r,
+                                compno: c,
+                                precno: k,
+                                x,
+                                y,
+                            };
+                            if is_free(marks, w.index(p), w.viewer) {
+                                found = Some(p);
+                                break 'search;
                             }
                         }
-                        Cell::Nothing => {}
                     }
-                    l_at = 0;
-                    r += 1;
+                    at = w.first();
                 }
-                r_at = resno0;
-                l_at = 0;
-                x = next_column(prep, resno0, resno1, c, c + 1, y, x, tx1);
+                at = w.first();
+                x = next_column(prep, one, y, x);
             }
-            x_at = tx0;
-            r_at = resno0;
-            l_at = 0;
-            y = next_row(prep, resno0, resno1, c, c + 1, y, ty1);
+            at = w.first();
+            y = next_row(prep, one, y);
         }
-        y_at = ty0;
-        x_at = tx0;
-        r_at = resno0;
-        l_at = 0;
-        c += 1;
+        at = w.first();
     }
     found
 }

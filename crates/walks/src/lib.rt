@@ -1,9 +1,12 @@
 // The five walks and the five listings, over prepared numbers: what a step takes, and the listing of all progressions. Both ask for a sound state.
+// kept as five functions, the walks, each one nest of loops that its label leaves: document 01, 'Form by location'.
 #![tactic(auto)]
 
+mod by_resolution;
 mod cell;
 mod count;
 mod cprl;
+mod entries;
 mod level;
 mod list;
 mod list_cprl;

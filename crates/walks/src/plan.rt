@@ -6,9 +6,8 @@ ghost use Rattle.packets.specs.Grid.{change_of};
 ghost use Rattle.walks.specs.Plan.{walk_for, goes_over, admits, order_in};
 
 use crate::walk::Walk;
-use geometry::math;
 use types::order::{Order, Range};
-use types::state::{Progression, State};
+use types::state::State;
 
 #[derive(Clone, Copy)]
 pub(crate) struct Plan {
@@ -29,7 +28,7 @@ fn walk_of(st: State, g: Range, viewer: u32) -> Walk
         viewer,
         layno1: g.layno1,
         resno0: g.resno0,
-        resno1: math::uint_min(g.resno1, st.reports.max_res),
+        resno1: g.resno1.min(st.reports.max_res),
         compno0: g.compno0,
         compno1: g.compno1,
         tx0: st.tx0,
@@ -46,32 +45,22 @@ fn walk_of(st: State, g: Range, viewer: u32) -> Walk
 fn some_admitted(st: State, g: Range) -> bool
     ensures { result ≡ admits st g }
 {
-    (0 < st.reports.max_prec) & ((0 < g.layno1) & g.components_good(st))
-}
-
-fn plan_for(st: State, q: Progression, viewer: u32) -> Plan
-    requires { (stride_r st ≤ 65536) × (stride_l st ≤ 65536) }
-    ensures { (result.order ≡ order_in st q) × (result.walk ≡ walk_for st (goes_over st q) viewer) }
-{
-    let g = Range::of(st, q);
-    let walk = walk_of(st, g, viewer);
-    if some_admitted(st, g) {
-        return Plan {
-            order: Order::of(q.prg),
-            walk,
-        };
-    }
-    Plan {
-        order: Order::NoPositions,
-        walk,
-    }
+    0 < st.reports.max_prec && 0 < g.layno1 && g.components_good(st)
 }
 
 // The plan of progression k of a state, for a viewer.
-pub(crate) fn plan_of(st: State, k: u32, viewer: u32) -> Plan
-    requires { (k < 32) × (stride_r st ≤ 65536) × (stride_l st ≤ 65536) }
-    ensures { (result.order ≡ order_in st (change_of st k)) × (result.walk ≡ walk_for st (goes_over st (change_of st k)) viewer) }
+#[tactic(auto, unfolding(crate::specs::Plan::order_in))]
+pub(crate) fn plan_of(st: &State, k: u32, viewer: u32) -> Plan
+    requires { (k < 32) × (stride_r st.now ≤ 65536) × (stride_l st.now ≤ 65536) }
+    ensures { (result.order ≡ order_in st.now (change_of st.now k)) × (result.walk ≡ walk_for st.now (goes_over st.now (change_of st.now k)) viewer) }
 {
-    let changes = st.changes;
-    plan_for(st, changes[k as usize], viewer)
+    let q = st.changes[k as usize];
+    let g = Range::of(*st, q);
+    let order = if some_admitted(*st, g) {
+        Order::of(q.prg)
+    } else {
+        Order::NoPositions
+    };
+    let walk = walk_of(*st, g, viewer);
+    Plan { order, walk }
 }

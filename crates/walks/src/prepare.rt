@@ -1,8 +1,14 @@
-// The numbers that the walks by points need, prepared once for each component and resolution (specs Prepare).
-ghost use Rattle.std.specs.Prelude.{◌≡◌, cond, ◌%◌, ◌^◌, ltb, eqb, length};
-ghost use Rattle.walks.specs.Prepare.{side_of, along_by, ResolutionIn, put_entry, SomeComponent, Done, Components, AllDone};
+// What the walks by points need, prepared once for each component and resolution (specs Prepare).
+ghost use Rattle.std.specs.Prelude.{◌≡◌, ℕ, List, cond, ◌%◌, ◌^◌, ltb, eqb};
+ghost use Rattle.packets.specs.Meaning.{Sound};
+ghost use Rattle.walks.specs.ByResolution.{IsBlank};
+ghost use Rattle.walks.specs.FromSound.{AllFilled};
+ghost use Rattle.walks.specs.Prepared.{unprepared};
+ghost use Rattle.walks.specs.Prepare.{side_of, along_by, sides_of, prepared_by};
 
-use crate::prepared::{Along, put_numbers};
+use crate::by_resolution::ByResolution;
+use crate::entries::{Making, make_all};
+use crate::prepared::{Along, Prepared};
 use geometry::axis::Axis;
 use geometry::{axis, power};
 use types::state::State;
@@ -12,11 +18,7 @@ use types::table::Entry;
 fn start(t: u32, low: u32, pd: u32) -> u32
     ensures { result ≡ cond (eqb (low % 2 ^ pd) 0) 4294967295 t }
 {
-    if power::uneven(low, pd) {
-        t
-    } else {
-        0xffff_ffff
-    }
+    if power::uneven(low, pd) { t } else { u32::MAX }
 }
 
 // The width that is shown: 0 where there is no precinct.
@@ -59,66 +61,43 @@ impl Side {
     }
 }
 
-// The numbers of a resolution, by its entry of the table.
-fn prepare_entry(
-    prep: &mut [u32; Along::MAX_NUMBERS],
-    r: u32,
-    c: u32,
-    level: u32,
-    e: Entry,
+// A component along both.
+#[derive(Clone, Copy)]
+struct Sides {
     x: Side,
     y: Side,
-)
-    requires { ResolutionIn r c e }
-    ensures { prep.new ≡ put_entry prep.old r c level e x y }
-{
-    let wide = shown(e.width, e.width * e.height);
-    put_numbers(
-        prep,
-        r,
-        c,
-        wide,
-        x.along(level, e.pdx),
-        y.along(level, e.pdy),
-    );
 }
 
-// The numbers of component c, which has n resolutions, and whose entries stand in the table from number base on.
-fn prepare_component(
-    prep: &mut [u32; Along::MAX_NUMBERS],
-    table: &[u8],
-    base: usize,
-    c: u32,
-    n: u32,
-    x: Side,
-    y: Side,
-)
-    requires { (length prep.old ≡ 3696) × SomeComponent table.now base c n x y }
-    ensures { Done table.now base c n x y prep.old prep.new n }
-{
-    let mut r: u32 = 0;
-    'rs: while r < n {
-        let e = Entry::at(table, base + (r as usize));
-        prepare_entry(prep, r, c, n - 1 - r, e, x, y);
-        r += 1;
-    }
-}
+impl Making for Sides {
+    type Made = Prepared;
 
-// The numbers of all components.
-pub(crate) fn prepare(prep: &mut [u32; Along::MAX_NUMBERS], table: &[u8], st: State)
-    requires { (length prep.old ≡ 3696) × Components st table.now }
-    ensures { AllDone st table.now prep.old prep.new st.components }
-{
-    let components = st.components;
-    let mut base: usize = 0;
-    let mut c: u32 = 0;
-    'cs: while c < components {
+    ghost of = { sides_of };
+
+    ghost made = { prepared_by };
+
+    fn of(st: &State, c: u32) -> Self {
         let i = c as usize;
-        let n = st.resolutions[i];
-        let x = Side::of(st.tx0, st.dx[i]);
-        let y = Side::of(st.ty0, st.dy[i]);
-        prepare_component(prep, table, base, c, n, x, y);
-        base += n as usize;
-        c += 1;
+        let comp = st.comps[i];
+        Sides {
+            x: Side::of(st.tx0, comp.dx),
+            y: Side::of(st.ty0, comp.dy),
+        }
     }
+
+    fn make(self, level: u32, e: Entry) -> Prepared {
+        Prepared {
+            width: shown(e.width, e.width * e.height),
+            x: self.x.along(level, e.pdx),
+            y: self.y.along(level, e.pdy),
+        }
+    }
+}
+
+// Those of a sound state.
+pub(crate) fn prepare(prep: &mut ByResolution<Prepared>, table: &[u8], st: State)
+    requires sound { (marks : List ℕ) × Sound st table.now marks }
+    requires blank { IsBlank unprepared prep.old }
+    ensures { AllFilled st table.now prep.new }
+{
+    make_all::<Sides>(prep, table, &st);
 }

@@ -1,40 +1,34 @@
 // One row of a tile: which precincts it meets, noted once for each component and resolution.
-ghost use Rattle.std.specs.Prelude.{◌≡◌, ◌<◌, length};
+ghost use Rattle.std.specs.Prelude.{◌≡◌, ◌<◌};
 ghost use Rattle.packets.specs.Tile.{Sheet};
 ghost use Rattle.packets.specs.InPlay.{next_before, play_y};
 ghost use Rattle.packets.specs.Grid.{step_y};
 ghost use Rattle.walks.specs.Prepared.{range_by};
 ghost use Rattle.walks.specs.InRow.{AtRow, SomeRow, Row};
 
+use crate::by_resolution::ByResolution;
 use crate::cell::row_at;
-use crate::next::nearer_row;
-use crate::prepared::{Along, put_number};
-use types::state::State;
+use crate::next::{nearer, row_step};
+use crate::prepared::Prepared;
+use crate::walk::Walk;
 
-// Notes it for resolutions r0 to r1 of components c0 to c1 (cell::row_at); answers the next row at which one of them can be met, and beyond the last the end.
+// Notes it for the resolutions and components of a walk (cell::row_at); answers the next row at which one of them can be met, and beyond the last the end.
 pub(crate) fn fill_row(
-    row: &mut [u32; State::MAX_ENTRIES],
-    prep: &[u32; Along::MAX_NUMBERS],
-    r0: u32,
-    r1: u32,
-    c0: u32,
-    c1: u32,
+    row: &mut ByResolution<Option<u32>>,
+    prep: &ByResolution<Prepared>,
+    w: Walk,
     y: u32,
-    end: u32,
 ) -> u32
-    requires { (length row.old ≡ 528) × (y < end) × SomeRow prep.now r0 r1 c0 c1 y }
-    ensures { (length row.new ≡ 528) × ((s : Sheet) → AtRow s prep.now r0 r1 c0 c1 y → Row s row.new r0 r1 c0 c1 y × (result ≡ next_before end (range_by r0 r1 c0 c1) (play_y s) (step_y s) y)) }
+    requires { (y < w.ty1) × SomeRow prep.now w.resno0 w.resno1 w.compno0 w.compno1 y }
+    ensures { (s : Sheet) → AtRow s prep.now w.resno0 w.resno1 w.compno0 w.compno1 y → Row s row.new w.resno0 w.resno1 w.compno0 w.compno1 y × (result ≡ next_before w.ty1 (range_by w.resno0 w.resno1 w.compno0 w.compno1) (play_y s) (step_y s) y) }
 {
-    let mut best = end - y;
-    let mut c = c0;
-    'cs: while c < c1 {
-        let mut r = r0;
-        'rs: while r < r1 {
-            best = nearer_row(prep, r, c, y, best);
-            put_number(row, r, c, row_at(prep, r, c, y));
-            r += 1;
+    let mut best = w.ty1 - y;
+    // kept beside next::next_by: these loops also write, and of what a closure writes at each turn its caller could prove nothing
+    for c in w.compno0..w.compno1 {
+        for r in w.resno0..w.resno1 {
+            best = nearer(best, row_step(prep, r, c), y);
+            row.put(r, c, row_at(prep, r, c, y));
         }
-        c += 1;
     }
     y + best
 }

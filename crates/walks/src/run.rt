@@ -1,5 +1,5 @@
 // The listing of a progression, by its order, and of all of them in turn: the numbers that only the orders by points need are prepared once one of these is met.
-ghost use Rattle.std.specs.Prelude.{◌≡◌, false, ℕ, length, List};
+ghost use Rattle.std.specs.Prelude.{◌≡◌, false, ℕ, List};
 ghost use Rattle.packets.specs.Tile.{index_of};
 ghost use Rattle.types.specs.Orders.{by_points};
 ghost use Rattle.packets.specs.Sound.{positions_for};
@@ -7,115 +7,86 @@ ghost use Rattle.packets.specs.Meaning.{Sound};
 ghost use Rattle.walks.specs.FromSound.{AllFilled};
 ghost use Rattle.walks.specs.Plan.{Planned};
 ghost use Rattle.walks.specs.Counting.{AllCounted};
-ghost use Rattle.walks.specs.Running.{Total, total_of, SomeRun, SomeFilledRun};
+ghost use Rattle.walks.specs.Running.{Ran, run_at, total, total_of, CountedIn, PreparedIn, SomeRun, ListsPlanned};
 ghost use Rattle.walks.specs.RunAll.{from_on, RestIn};
 
+use crate::by_resolution::ByResolution;
 use crate::count::count_precincts;
-use crate::list_cprl::list_cprl;
-use crate::list_lrcp::list_lrcp;
-use crate::list_pcrl::list_pcrl;
-use crate::list_rlcp::list_rlcp;
-use crate::list_rpcl::list_rpcl;
+use crate::list::Run;
 use crate::plan::{Plan, plan_of};
 use crate::prepare::prepare;
-use crate::prepared::Along;
+use crate::prepared::Prepared;
 use types::cursor::Cursor;
 use types::order::Order;
 use types::state::State;
 
-// Lists a planned progression whose order is not by points, with n packets before it; answers how many there are then.
-fn list_counted(
-    marks: &mut [u8],
-    output: &mut [u8],
-    counts: &[u32; State::MAX_ENTRIES],
-    plan: Plan,
-    n: u32,
-) -> u32
-    requires { SomeRun counts.now plan marks.old n × (by_points plan.order ≡ false) }
-    ensures { (st : _) (table : List ℕ) (k : ℕ) → Planned st table k plan marks.old → AllCounted st table counts.now → ◌≡◌ {A = Total} (record { count = result; marks = marks.new; output = output.new }) (total_of (index_of st) marks.old output.old n (positions_for st table k)) }
-{
-    let order = plan.order;
-    let w = plan.walk;
-    match order {
-        Order::Lrcp => list_lrcp(marks, output, counts, w, n),
-        Order::Rlcp => list_rlcp(marks, output, counts, w, n),
-        Order::Rpcl => n,
-        Order::Pcrl => n,
-        Order::Cprl => n,
-        Order::NoPositions => n,
+impl Run<'_> {
+    // Lists a planned progression whose order is not by points.
+    #[inline(always)]
+    fn list_counted(&mut self, counts: &ByResolution<u32>, plan: Plan)
+        requires { SomeRun (CountedIn counts.now) plan self.old × (by_points plan.order ≡ false) }
+        ensures { ListsPlanned (CountedIn counts.now) plan self.old self.new }
+    {
+        let w = plan.walk;
+        match plan.order {
+            Order::Lrcp => self.list_lrcp(counts, w),
+            Order::Rlcp => self.list_rlcp(counts, w),
+            _ => {}
+        }
     }
-}
 
-// Lists any planned progression. The row is working space.
-fn list_progression(
-    marks: &mut [u8],
-    output: &mut [u8],
-    row: &mut [u32; State::MAX_ENTRIES],
-    counts: &[u32; State::MAX_ENTRIES],
-    prep: &[u32; Along::MAX_NUMBERS],
-    plan: Plan,
-    n: u32,
-) -> u32
-    requires { (length row.old ≡ 528) × SomeFilledRun counts.now prep.now plan marks.old n }
-    ensures { (length row.new ≡ 528) × ((st : _) (table : List ℕ) (k : ℕ) → Planned st table k plan marks.old → AllCounted st table counts.now → AllFilled st table prep.now → ◌≡◌ {A = Total} (record { count = result; marks = marks.new; output = output.new }) (total_of (index_of st) marks.old output.old n (positions_for st table k))) }
-{
-    let order = plan.order;
-    let w = plan.walk;
-    match order {
-        Order::Lrcp => list_lrcp(marks, output, counts, w, n),
-        Order::Rlcp => list_rlcp(marks, output, counts, w, n),
-        Order::Rpcl => list_rpcl(marks, output, row, prep, w, n),
-        Order::Pcrl => list_pcrl(marks, output, row, prep, w, n),
-        Order::Cprl => list_cprl(marks, output, row, prep, w, n),
-        Order::NoPositions => n,
+    // Lists any planned progression.
+    fn list_progression(
+        &mut self,
+        counts: &ByResolution<u32>,
+        prep: &ByResolution<Prepared>,
+        plan: Plan,
+    )
+        requires { SomeRun (PreparedIn counts.now prep.now) plan self.old }
+        ensures { ListsPlanned (PreparedIn counts.now prep.now) plan self.old self.new }
+    {
+        let w = plan.walk;
+        match plan.order {
+            Order::Rpcl => self.list_rpcl(prep, w),
+            Order::Pcrl => self.list_pcrl(prep, w),
+            Order::Cprl => self.list_cprl(prep, w),
+            _ => self.list_counted(counts, plan),
+        }
     }
-}
 
-// Lists the progressions of a state from number k_from on, with n packets before them, over numbers prepared here; answers how many there are then.
-fn list_rest(
-    st: State,
-    table: &[u8],
-    counts: &[u32; State::MAX_ENTRIES],
-    marks: &mut [u8],
-    output: &mut [u8],
-    k_from: u32,
-    n: u32,
-) -> u32
-    requires { RestIn st table.now counts.now marks.old n k_from }
-    ensures { ◌≡◌ {A = Total} (record { count = result; marks = marks.new; output = output.new }) (total_of (index_of st) marks.old output.old n (from_on st table.now k_from)) }
-{
-    let mut prep = [0u32; Along::MAX_NUMBERS];
-    prepare(&mut prep, table, st);
-    let mut row = [0u32; State::MAX_ENTRIES];
-    let progressions = st.progressions;
-    let mut count = n;
-    let mut k = k_from;
-    'runs: while k < progressions {
-        let plan = plan_of(st, k, Cursor::WHOLE_RUN);
-        count = list_progression(marks, output, &mut row, counts, &prep, plan, count);
-        k += 1;
+    // Lists the progressions of a state from number k_from on, over numbers prepared here.
+    fn list_rest(&mut self, st: &State, table: &[u8], counts: &ByResolution<u32>, k_from: u32)
+        requires { RestIn st.now table.now counts.now self.old k_from }
+        ensures { Ran self.old self.new (total_of (index_of st.now) (total self.old) (from_on st.now table.now k_from)) }
+    {
+        let mut prep = ByResolution::blank();
+        prepare(&mut prep, table, *st);
+        'runs: for k in k_from..st.progressions {
+            let plan = plan_of(st, k, Cursor::WHOLE_RUN);
+            self.list_progression(counts, &prep, plan);
+        }
     }
-    count
 }
 
 // Lists every progression of a state in turn; answers how many packets there are.
 pub fn list_all(st: State, table: &[u8], marks: &mut [u8], output: &mut [u8]) -> u32
     requires { Sound st table.now marks.old }
-    ensures { ◌≡◌ {A = Total} (record { count = result; marks = marks.new; output = output.new }) (total_of (index_of st) marks.old output.old 0 (from_on st table.now 0)) }
+    ensures { run_at result marks.new output.new ≡ total_of (index_of st) (run_at 0 marks.old output.old) (from_on st table.now 0) }
 {
-    let mut counts = [0u32; State::MAX_ENTRIES];
-    count_precincts(&mut counts, table, st);
-    let progressions = st.progressions;
-    let mut count = 0;
-    let mut k = 0;
-    'runs: while k < progressions {
-        let plan = plan_of(st, k, Cursor::WHOLE_RUN);
-        let order = plan.order;
-        if order.by_points() {
-            return list_rest(st, table, &counts, marks, output, k, count);
+    let mut counts = ByResolution::blank();
+    count_precincts(&mut counts, table, &st);
+    let mut run = Run {
+        marks,
+        output,
+        count: 0,
+    };
+    'runs: for k in 0..st.progressions {
+        let plan = plan_of(&st, k, Cursor::WHOLE_RUN);
+        if plan.order.by_points() {
+            run.list_rest(&st, table, &counts, k);
+            return run.count;
         }
-        count = list_counted(marks, output, &counts, plan, count);
-        k += 1;
+        run.list_counted(&counts, plan);
     }
-    count
+    run.count
 }

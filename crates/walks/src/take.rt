@@ -10,27 +10,17 @@ ghost use Rattle.walks.specs.Taking.{marked_by};
 
 use crate::plan::plan_of;
 use crate::search::search;
-use crate::walk::{Found, index};
-use types::cursor::Cursor;
+use types::cursor::{Cursor, Position};
 use types::mark;
 use types::state::State;
 
-pub fn take(st: State, table: &[u8], marks: &mut [u8], c: Cursor) -> Found
+pub fn take(st: State, table: &[u8], marks: &mut [u8], c: Cursor) -> Option<Position>
     requires { Sound st table.now marks.old × CursorIn st table.now c }
     ensures found { answer_of result ≡ seek c.viewer (index_of st) marks.old (after c.place (positions_for st table.now c.progression)) }
     ensures marked { marks.new ≡ marked_by c.viewer st marks.old result }
 {
-    let place = c.place;
-    let plan = plan_of(st, c.progression, c.viewer);
-    match search(st, table, marks, plan, place) {
-        Found::At(p) => {
-            mark::set(
-                marks,
-                index(plan.walk, p.layno, p.resno, p.compno, p.precno),
-                c.viewer,
-            );
-            Found::At(p)
-        }
-        Found::Nothing => Found::Nothing,
-    }
+    let plan = plan_of(&st, c.progression, c.viewer);
+    let p = search(st, table, marks, plan, c.place)?;
+    mark::set(marks, plan.walk.index(p), c.viewer);
+    Some(p)
 }

@@ -1,7 +1,8 @@
-// What a walk goes over, where a mark stands, and what a walk finds.
-ghost use Rattle.std.specs.Prelude.{◌≡◌, ◌+◌, ◌*◌, ◌<◌};
-ghost use Rattle.walks.specs.Walk.{index_by};
+// What a walk goes over, and where a mark stands.
+ghost use Rattle.std.specs.Prelude.{◌≡◌, ◌<◌};
+ghost use Rattle.walks.specs.Marks.{mark_by};
 ghost use Rattle.walks.specs.Part.{part_by};
+ghost use Rattle.walks.specs.Search.{first_of};
 
 use types::cursor::Position;
 
@@ -23,38 +24,43 @@ pub(crate) struct Walk {
     pub stride_c: u32,
 }
 
-// The walk over resolutions r0 to r1 of components c0 to c1 alone.
-pub(crate) fn part(w: Walk, r0: u32, r1: u32, c0: u32, c1: u32) -> Walk
-    ensures { result ≡ part_by w r0 r1 c0 c1 }
-{
-    Walk {
-        viewer: w.viewer,
-        layno1: w.layno1,
-        resno0: r0,
-        resno1: r1,
-        compno0: c0,
-        compno1: c1,
-        tx0: w.tx0,
-        ty0: w.ty0,
-        tx1: w.tx1,
-        ty1: w.ty1,
-        stride_l: w.stride_l,
-        stride_r: w.stride_r,
-        stride_c: w.stride_c,
+impl Walk {
+    // The walk over resolutions r0 to r1 of components c0 to c1 alone.
+    pub fn part(self, r0: u32, r1: u32, c0: u32, c1: u32) -> Self
+        ensures { result ≡ part_by self r0 r1 c0 c1 }
+    {
+        Walk {
+            resno0: r0,
+            resno1: r1,
+            compno0: c0,
+            compno1: c1,
+            ..self
+        }
     }
-}
 
-// What a search ends with.
-#[derive(Clone, Copy)]
-pub enum Found {
-    At(Position),
-    Nothing,
-}
+    // Its first position.
+    pub fn first(self) -> Position
+        ensures { result ≡ first_of self }
+    {
+        Position {
+            layno: 0,
+            resno: self.resno0,
+            compno: self.compno0,
+            precno: 0,
+            x: self.tx0,
+            y: self.ty0,
+        }
+    }
 
-// Where the mark of a packet stands.
-pub(crate) fn index(w: Walk, l: u32, r: u32, c: u32, k: u32) -> usize
-    requires { index_by w l r c k < 65536 }
-    ensures { result ≡ index_by w l r c k }
-{
-    (l * w.stride_l + r * w.stride_r + c * w.stride_c + k) as usize
+    // Where the mark of a packet stands.
+    #[tactic(auto, unfolding(crate::specs::Walk::index_by))]
+    pub fn index(self, p: Position) -> usize
+        requires { mark_by self p < 65536 }
+        ensures { result ≡ mark_by self p }
+    {
+        (p.layno * self.stride_l
+            + p.resno * self.stride_r
+            + p.compno * self.stride_c
+            + p.precno) as usize
+    }
 }

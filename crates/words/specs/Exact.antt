@@ -1,6 +1,7 @@
 -- Bytes and words say the same: the bytes of small words are bytes, and the words that are read give the bytes back. Assumes nothing.
 use Rattle.std.specs.Prelude.{◌≡◌, List, [], ◌∷◌, ◌++◌, ℕ, suc, ◌+◌, ◌*◌, ◌/◌, ◌%◌, ◌^◌, ◌≤◌, ◌<◌, length, get_or, take}
-use Rattle.std.proofs.Common.{sym, ap, ◌∙◌, append_assoc, append-nil, add-one, arith, take-suc}
+use Rattle.std.proofs.Common.{sym, ap, ◌∙◌, append_assoc, append-nil, arith}
+use Rattle.std.proofs.lemmas.List.{take_more}
 use Rattle.laws.specs.Gather.{gather}
 use Rattle.laws.specs.Bounded.{Bounded, bounded-each, bounded-append}
 use Rattle.words.specs.Words.{word_at, bytes_of, words_bytes}
@@ -28,16 +29,15 @@ bytes-back a b c d ha hb hc hd =
 -- bytes taken up to a word, and that word's: the bytes taken up to its end
 pub take_word : (s : List ℕ) → Bytes s → (at : ℕ) → at + 4 ≤ length s → take at s ++ bytes_of (word_at s at) ≡ take (at + 4) s
 take_word s small at h =
-    let one : (n : ℕ) → n < length s → take (n + 1) s ≡ take n s ++ (get_or s n 0 ∷ []) = λ n l. rw (add-one n) (take-suc s n 0 l) in
     let word : bytes_of (word_at s at) ≡ get_or s at 0 ∷ get_or s (at + 1) 0 ∷ get_or s (at + 2) 0 ∷ get_or s (at + 3) 0 ∷ []
     = ap bytes_of (word_room s at h) ∙ bytes-back _ _ _ _ (small at) (small (at + 1)) (small (at + 2)) (small (at + 3)) in
     let a : at + 4 ≡ at + 3 + 1 = omega arith in
     let b : at + 3 ≡ at + 2 + 1 = omega arith in
     let c : at + 2 ≡ at + 1 + 1 = omega arith in
-    let t3 : take (at + 4) s ≡ take (at + 3) s ++ (get_or s (at + 3) 0 ∷ []) = rw a (one (at + 3) (omega arith)) in
-    let t2 : take (at + 3) s ≡ take (at + 2) s ++ (get_or s (at + 2) 0 ∷ []) = rw b (one (at + 2) (omega arith)) in
-    let t1 : take (at + 2) s ≡ take (at + 1) s ++ (get_or s (at + 1) 0 ∷ []) = rw c (one (at + 1) (omega arith)) in
-    let t0 : take (at + 1) s ≡ take at s ++ (get_or s at 0 ∷ []) = one at (omega arith) in
+    let t3 : take (at + 4) s ≡ take (at + 3) s ++ (get_or s (at + 3) 0 ∷ []) = rw a (take_more s (at + 3) 0 (omega arith)) in
+    let t2 : take (at + 3) s ≡ take (at + 2) s ++ (get_or s (at + 2) 0 ∷ []) = rw b (take_more s (at + 2) 0 (omega arith)) in
+    let t1 : take (at + 2) s ≡ take (at + 1) s ++ (get_or s (at + 1) 0 ∷ []) = rw c (take_more s (at + 1) 0 (omega arith)) in
+    let t0 : take (at + 1) s ≡ take at s ++ (get_or s at 0 ∷ []) = take_more s at 0 (omega arith) in
     rw (word, t3, t2, t1, t0) (simp append_assoc)
 
 -- words that are read one after the other from a place on are the bytes from there

@@ -1,7 +1,8 @@
 -- Laws of big-endian words: what was written is read, one word more laid over a buffer, and what stands beyond. Assumes nothing.
-use Rattle.std.specs.Prelude.{◌≡◌, refl, List, [], ◌∷◌, ◌++◌, ℕ, zero, suc, ◌+◌, ◌*◌, ◌/◌, ◌%◌, ◌^◌, ◌≤◌, ◌<◌, length, get_or, set, take, drop, leb}
-use Rattle.std.proofs.Common.{ap, ◌∙◌, ⊎_elim, append_assoc, suc-add, add_assoc, add-one, arith, length-append, length-take, length-drop, get_or-append-add, get_or-take, get_or-drop, drop-cons, le-leb}
+use Rattle.std.specs.Prelude.{◌≡◌, refl, List, [], ◌∷◌, ◌++◌, ℕ, zero, suc, ◌+◌, ◌-◌, ◌*◌, ◌/◌, ◌%◌, ◌^◌, ◌≤◌, ◌<◌, length, get_or, set, take, drop, leb}
+use Rattle.std.proofs.Common.{sym, ◌∙◌, ⊎_elim, append_assoc, add_assoc, arith, length-append, length-take, length-drop, get_or-append-add, get_or-take, get_or-drop, le-leb}
 use Rattle.std.proofs.lemmas.Bool.{lt-leb}
+use Rattle.std.proofs.lemmas.List.{take-append-drop, drop_more, set-append_right}
 use Rattle.laws.specs.Cases.{le_or_lt, split}
 use Rattle.laws.specs.Gather.{gather, gather-append}
 use Rattle.words.specs.Words.{word_at, four_at, put_word, put_four, bytes_of, words_bytes, over}
@@ -74,8 +75,9 @@ word_behind xs ys at =
     rw (room_behind xs ys at, add_assoc (length xs) at 1, add_assoc (length xs) at 2, add_assoc (length xs) at 3, get_or-append-add xs ys at 0, get_or-append-add xs ys (at + 1) 0, get_or-append-add xs ys (at + 2) 0, get_or-append-add xs ys (at + 3) 0)
 
 set-behind : (xs ys : List ℕ) (n v : ℕ) → set (xs ++ ys) (length xs + n) v ≡ xs ++ set ys n v
-set-behind [] ys n v = ap (λ (k : ℕ). set ys k v) (omega arith)
-set-behind (x ∷ xs) ys n v = rw (suc-add (length xs) n, set-behind xs ys n v)
+set-behind xs ys n v =
+    let back : length xs + n - length xs ≡ n = omega arith in
+    rw back at (set-append_right xs ys (length xs) (length xs + n) v refl (omega arith))
 
 -- a word written after the first bytes
 pub put-behind : (xs ys : List ℕ) (at w : ℕ) → put_word (xs ++ ys) (length xs + at) w ≡ xs ++ put_word ys at w
@@ -107,15 +109,12 @@ pub over-length : (new old : List ℕ) → length new ≤ length old → length 
 over-length new old h = simp (length-append, length-drop) (omega arith)
 
 -- what is left, one element after the other
-one : (l : List ℕ) (n : ℕ) → n < length l → drop n l ≡ get_or l n 0 ∷ drop (n + 1) l
-one l n h = rw (add-one n) (drop-cons l n 0 h)
-
 four : (l : List ℕ) (n : ℕ) → n + 4 ≤ length l → drop n l ≡ get_or l n 0 ∷ get_or l (n + 1) 0 ∷ get_or l (n + 2) 0 ∷ get_or l (n + 3) 0 ∷ drop (n + 4) l
 four l n h =
     let two : n + 1 + 1 ≡ n + 2 = omega arith in
     let three : n + 2 + 1 ≡ n + 3 = omega arith in
     let last : n + 3 + 1 ≡ n + 4 = omega arith in
-    rw (one l n (omega arith), one l (n + 1) (omega arith), two, one l (n + 2) (omega arith), three, one l (n + 3) (omega arith), last)
+    rw (drop_more l n 0 (omega arith), drop_more l (n + 1) 0 (omega arith), two, drop_more l (n + 2) 0 (omega arith), three, drop_more l (n + 3) 0 (omega arith), last)
 
 -- a word written where four bytes stand
 put-first : (a b c d : ℕ) (rest : List ℕ) (w : ℕ) → put_word (a ∷ b ∷ c ∷ d ∷ rest) 0 w ≡ bytes_of w ++ rest
@@ -123,6 +122,13 @@ unfolding put_word
 put-first a b c d rest w =
     let room : 0 + 4 ≤ length (a ∷ b ∷ c ∷ d ∷ rest) = omega arith in
     rw (le-leb _ _ room)
+
+-- a word written at a place: its bytes stand there in the place of four
+pub put_between : (s : List ℕ) (at w : ℕ) → at + 4 ≤ length s → put_word s at w ≡ take at s ++ (bytes_of w ++ drop (at + 4) s)
+put_between s at w h =
+    let behind : length (take at s) + 0 ≡ at = simp length-take (omega arith) in
+    let whole : put_word (take at s ++ drop at s) (length (take at s) + 0) w ≡ put_word s at w = rw (take-append-drop at s, behind) in
+    sym whole ∙ put-behind (take at s) (drop at s) 0 w ∙ rw (four s at h, put-first)
 
 pub words_more : (ws : List ℕ) (w : ℕ) → words_bytes (ws ++ (w ∷ [])) ≡ words_bytes ws ++ bytes_of w
 unfolding words_bytes gather

@@ -1,29 +1,25 @@
 // Big-endian 32-bit words in lent bytes. The functions are total: where the bytes are not all there, a word is read as 0 and nothing is written.
 #![tactic(auto)]
 
-ghost use Rattle.std.specs.Prelude.{◌≡◌, ◌+◌, ◌/◌, ◌%◌, ◌^◌, ◌≤◌, ◌<◌, length};
+ghost use Rattle.std.specs.Prelude.{◌≡◌, ◌+◌, ◌≤◌, length, nat_le};
 ghost use Rattle.words.specs.Words.{word_at, four_at, put_word, put_four};
 
-fn wide(b: u8) -> u32
-    ensures { (result ≡ b) × (result < 256) }
+// There are n bytes from place at on. The length is compared by itself, so that in a loop over places the compiler does so before it.
+fn has(length: usize, at: usize, n: usize) -> bool
+    ensures { result ≡ nat_le (at + n) length }
 {
-    b as u32
+    n <= length && at <= length - n
 }
 
 // The word whose first byte stands at place at.
 pub fn word_at(s: &[u8], at: usize) -> u32
     ensures { result ≡ word_at s.now at }
 {
-    if s.len() < 4 {
-        return 0;
+    if has(s.len(), at, 4) {
+        u32::from_be_bytes([s[at], s[at + 1], s[at + 2], s[at + 3]])
+    } else {
+        0
     }
-    if s.len() - 4 < at {
-        return 0;
-    }
-    wide(s[at]) * 0x100_0000
-        + wide(s[at + 1]) * 0x1_0000
-        + wide(s[at + 2]) * 0x100
-        + wide(s[at + 3])
 }
 
 // Four words, one after the other.
@@ -51,25 +47,10 @@ fn first_four(s: &[u8]) -> Four
 pub fn four_at(s: &[u8], at: usize) -> Four
     ensures { result ≡ four_at s.now at }
 {
-    if s.len() < at {
-        return Four {
-            a: 0,
-            b: 0,
-            c: 0,
-            d: 0,
-        };
-    }
-    if s.len() - at < 16 {
-        return first_four(&s[at..]);
+    if !has(s.len(), at, 16) {
+        return first_four(s.get(at..).unwrap_or(&[]));
     }
     first_four(&s[at..at + 16])
-}
-
-// The bytes of a word in the other order. The compiler knows it as one instruction, and the four writes below as one.
-fn swapped(w: u32) -> u32
-    ensures { (result % 256 ≡ w / 2 ^ 24) × ((result / 256 % 256 ≡ w / 2 ^ 16 % 2 ^ 8) × ((result / 65536 % 256 ≡ w / 2 ^ 8 % 2 ^ 8) × (result / 16777216 ≡ w % 2 ^ 8))) }
-{
-    w % 256 * 0x100_0000 + w / 0x100 % 256 * 0x1_0000 + w / 0x1_0000 % 256 * 0x100 + w / 0x100_0000
 }
 
 // Writes a word's four bytes from place at on, where there is room for them.
@@ -77,38 +58,26 @@ fn lay(s: &mut [u8], at: usize, w: u32)
     requires { at + 4 ≤ length s.old }
     ensures { s.new ≡ put_word s.old at w }
 {
-    let v = swapped(w);
-    s[at] = (v % 256) as u8;
-    s[at + 1] = (v / 0x100 % 256) as u8;
-    s[at + 2] = (v / 0x1_0000 % 256) as u8;
-    s[at + 3] = (v / 0x100_0000) as u8;
+    s[at..at + 4].copy_from_slice(&w.to_be_bytes());
 }
 
 // Writes a word's four bytes from place at on.
 pub fn put_word(s: &mut [u8], at: usize, w: u32)
     ensures { s.new ≡ put_word s.old at w }
 {
-    if s.len() < 4 {
-        return;
+    if has(s.len(), at, 4) {
+        lay(s, at, w);
     }
-    if s.len() - 4 < at {
-        return;
-    }
-    lay(s, at, w);
 }
 
 // Writes four words from place at on, with one test of the room for all of them.
-pub fn put_four(s: &mut [u8], at: usize, a: u32, b: u32, c: u32, d: u32)
-    ensures { s.new ≡ put_four s.old at a b c d }
+pub fn put_four(s: &mut [u8], at: usize, four: Four)
+    ensures { s.new ≡ put_four s.old at four.a four.b four.c four.d }
 {
-    if s.len() < 16 {
-        return;
+    if has(s.len(), at, 16) {
+        lay(s, at, four.a);
+        lay(s, at + 4, four.b);
+        lay(s, at + 8, four.c);
+        lay(s, at + 12, four.d);
     }
-    if s.len() - 16 < at {
-        return;
-    }
-    lay(s, at, a);
-    lay(s, at + 4, b);
-    lay(s, at + 8, c);
-    lay(s, at + 12, d);
 }

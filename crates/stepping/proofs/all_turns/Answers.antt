@@ -1,22 +1,15 @@
 -- `all_turns`: the progressions that are left lead to the end that was to be reached at entry (`KeptTurns`). Assumes nothing.
-use Prim.Native.Nat.{◌-◌}
 use Rattle.stepping.specs.Kept.{turns-first, turns-few, turns-next, turns-ended}
 use Rattle.stepping.proofs.all_turns.Goals as goal
 
-pub turns-init : goal.turns-init
-turns-init c = turns-first
+pub loop-k-init : goal.loop-k-init
+loop-k-init c = turns-first
 
 pub turn-count-requires : goal.turn-count-requires
-turn-count-requires c = turns-few c.turns.invariant c.turns-test.true c.requires
+turn-count-requires c = turns-few c.loop-k.invariant c.loop-k-test.true c.requires
 
-pub turns-preserved : goal.turns-preserved
-turns-preserved c = turns-next c.turns.invariant c.turns-test.true c.turn-count.auto.marks c.turn-count.auto.output c.turn-count.ensures
-
-pub shape_of-marks : goal.shape_of-marks
-shape_of-marks c = c.turns.invariant.long
-
-pub shape_of-output : goal.shape_of-output
-shape_of-output c = c.turns.invariant.room
+pub loop-k-preserved : goal.loop-k-preserved
+loop-k-preserved c = turns-next c.loop-k.invariant c.loop-k-test.true c.turn-count.auto.marks c.turn-count.auto.output c.turn-count.ensures
 
 pub returns : goal.returns
-returns c = turns-ended c.turns.invariant c.turns-test.false
+returns c = turns-ended c.loop-k.invariant c.loop-k-test.false

@@ -1,18 +1,11 @@
--- `lay`: the writes are those of the definition, in order. Assumes nothing.
-use mathlib.Core.Path.{sym}
-use Rattle.words.specs.Laws.{put_room}
-use lib.ListN.{length-set}
-use native.Mathlib.Omega.{arith}
+-- `lay`: the word's bytes stand in the place of four. Assumes nothing.
+use Rattle.std.proofs.Common.{◌≡◌, ◌+◌, ◌-◌, ◌/◌, ◌%◌, ◌^◌, drop-drop, arith}
+use Rattle.words.specs.Laws.{put_between}
 use Rattle.words.proofs.lay.Goals as goal
 
-pub bounds-s-at-2 : goal.bounds-s-at-2
-bounds-s-at-2 c = simp length-set (omega arith)
-
-pub bounds-s-at-3 : goal.bounds-s-at-3
-bounds-s-at-3 c = simp length-set (omega arith)
-
-pub bounds-s-at-4 : goal.bounds-s-at-4
-bounds-s-at-4 c = simp length-set (omega arith)
-
 pub returns : goal.returns
-returns c = let a = c.args in let e = c.swapped-v.ensures in rw (e.0, e.1.0, e.1.1.0, e.1.1.1) (sym (put_room a.s.now a.at a.w c.requires))
+returns c =
+    let a = c.args in
+    let high : a.w / 2 ^ 24 % 2 ^ 8 ≡ a.w / 2 ^ 24 = omega arith in
+    let long : a.at + 4 - a.at ≡ 4 = omega arith in
+    rw (put_between a.s.now a.at a.w (omega arith), c.copy_from_slice.ensures.after, c.to_be_bytes.ensures, high, long, drop-drop)

@@ -4,18 +4,18 @@ use borrow.Author.Tests.{lt-ltb, le-ltb}
 use mathlib.Core.Path.{sym, ◌∙◌}
 use Rattle.calls.proofs.open.open.Goals as goal
 
-pub returns-then-progression-st : goal.returns-then-progression-st
+pub returns-then-not-followed_sound : goal.returns-then-not-followed_sound
 unfolding open_of
-returns-then-progression-st c = rw ((sym c.followed_sound.ensures ∙ c.if-followed_sound.true), lt-ltb _ 8 c.if-viewer-lt-VIEWERS.true, lt-ltb _ _ c.if-progression-st.true, c.fresh.ensures)
+returns-then-not-followed_sound c = rw (sym c.followed_sound.ensures ∙ c.if-not-followed_sound.true)
 
-pub returns-then-viewer-lt-VIEWERS : goal.returns-then-viewer-lt-VIEWERS
+pub returns-then-viewer-ge-VIEWERS : goal.returns-then-viewer-ge-VIEWERS
 unfolding open_of
-returns-then-viewer-lt-VIEWERS c = rw ((sym c.followed_sound.ensures ∙ c.if-followed_sound.true), lt-ltb _ 8 c.if-viewer-lt-VIEWERS.true, le-ltb _ _ c.if-progression-st.false)
+returns-then-viewer-ge-VIEWERS c = rw (sym c.followed_sound.ensures ∙ c.if-not-followed_sound.false, le-ltb _ 8 c.if-viewer-ge-VIEWERS.true)
 
-pub returns-then-followed_sound : goal.returns-then-followed_sound
+pub returns-then-f-progression : goal.returns-then-f-progression
 unfolding open_of
-returns-then-followed_sound c = rw ((sym c.followed_sound.ensures ∙ c.if-followed_sound.true), le-ltb _ 8 c.if-viewer-lt-VIEWERS.false)
+returns-then-f-progression c = rw (sym c.followed_sound.ensures ∙ c.if-not-followed_sound.false, lt-ltb _ 8 c.if-viewer-ge-VIEWERS.false, le-ltb _ _ c.if-f-progression.true)
 
 pub returns : goal.returns
 unfolding open_of
-returns c = rw (sym c.followed_sound.ensures ∙ c.if-followed_sound.false)
+returns c = rw (sym c.followed_sound.ensures ∙ c.if-not-followed_sound.false, lt-ltb _ 8 c.if-viewer-ge-VIEWERS.false, lt-ltb _ _ c.if-f-progression.false, c.fresh.ensures)

@@ -31,14 +31,14 @@ returns-then-not-sound c =
 pub take-requires : goal.take-requires
 take-requires c = let w = (all_sound_means _ _ _ _).0 (call (goal.at.take-requires c).Else-not-sound) in (w.0.0, w.1)
 
-pub returns-in-At : goal.returns-in-At
-returns-in-At c =
+pub returns-in-Some : goal.returns-in-Some
+returns-in-Some c =
     let a = c.args in
-    let e = c.in-At.is in
-    let t = stepped (goal.at.returns-in-At c).After-take ∙ ap (λ f. step_by a.f a.marks.now a.cursor.viewer a.cursor.progression (answer_of f)) e in record { says = ap (λ (x : Step). x.said) (sym t); counts = c.one_less-followed.ensures ∙ ap (λ (x : Step). x.followed) (sym t); marked = c.take.ensures.marked ∙ ap (marked_by a.cursor.viewer a.f.state a.marks.now) e ∙ ap (λ (x : Step). x.marks) (sym t) }
+    let e = c.in-Some.is in
+    let t = stepped (goal.at.returns-in-Some c).After-take ∙ ap (λ f. step_by a.f a.marks.now a.cursor.viewer a.cursor.progression (answer_of f)) e in record { says = ap (λ (x : Step). x.said) (sym t); counts = c.one_less-followed.ensures ∙ ap (λ (x : Step). x.followed) (sym t); marked = c.take.ensures.marked ∙ ap (marked_by a.cursor.viewer a.f.state a.marks.now) e ∙ ap (λ (x : Step). x.marks) (sym t) }
 
-pub returns-in-Nothing : goal.returns-in-Nothing
-returns-in-Nothing c =
+pub returns-in-None : goal.returns-in-None
+returns-in-None c =
     let a = c.args in
-    let e = c.in-Nothing.is in
-    let t = stepped (goal.at.returns-in-Nothing c).After-take ∙ ap (λ f. step_by a.f a.marks.now a.cursor.viewer a.cursor.progression (answer_of f)) e in record { says = ap (λ (x : Cursor). record { number = pos 0; packet = none; cursor = x }) c.ended.ensures ∙ ap (λ (x : Step). x.said) (sym t); counts = ap (λ (x : Step). x.followed) (sym t); marked = c.take.ensures.marked ∙ ap (marked_by a.cursor.viewer a.f.state a.marks.now) e ∙ ap (λ (x : Step). x.marks) (sym t) }
+    let e = c.in-None.is in
+    let t = stepped (goal.at.returns-in-None c).After-take ∙ ap (λ f. step_by a.f a.marks.now a.cursor.viewer a.cursor.progression (answer_of f)) e in record { says = ap (λ (x : Cursor). record { number = pos 0; packet = none; cursor = x }) c.ended.ensures ∙ ap (λ (x : Step). x.said) (sym t); counts = ap (λ (x : Step). x.followed) (sym t); marked = c.take.ensures.marked ∙ ap (marked_by a.cursor.viewer a.f.state a.marks.now) e ∙ ap (λ (x : Step). x.marks) (sym t) }

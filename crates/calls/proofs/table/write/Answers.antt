@@ -1,6 +1,6 @@
 -- `write`: after i turns the words of the first i entries are laid over the table. Assumes nothing.
 use lib.ListN.{length, get_or, take}
-use Prim.Native.Nat.{ℕ, ◌+◌, ◌*◌, ◌≤◌, ◌<◌, ◌-◌}
+use Prim.Native.Nat.{ℕ, ◌+◌, ◌*◌, ◌≤◌, ◌<◌}
 use mathlib.Core.List.{List, [], ◌∷◌, ◌++◌, append_assoc}
 use Rattle.laws.specs.Gather.{gather}
 use Rattle.words.specs.Words.{put_four, words_bytes, over}
@@ -32,30 +32,12 @@ module _ (ws old : List ℕ) where
 
 pub loop-i-init : goal.loop-i-init
 unfolding words_bytes gather
-loop-i-init c = (omega arith, refl, refl)
-
-pub bounds-words-w : goal.bounds-words-w
-bounds-words-w c = omega (arith, c.requires.0)
-
-pub bounds-words-w-in-loop-i : goal.bounds-words-w-in-loop-i
-bounds-words-w-in-loop-i c = omega (arith, c.requires.0)
-
-pub bounds-words-w-in-loop-i-2 : goal.bounds-words-w-in-loop-i-2
-bounds-words-w-in-loop-i-2 c = omega (arith, c.requires.0)
-
-pub bounds-words-w-in-loop-i-3 : goal.bounds-words-w-in-loop-i-3
-bounds-words-w-in-loop-i-3 c = omega (arith, c.requires.0)
+loop-i-init c = refl
 
 pub loop-i-preserved : goal.loop-i-preserved
-loop-i-preserved c = let a = c.args in
-    let w = c.put_four in
+loop-i-preserved c =
+    let a = c.args in
     let l = c.loop-i in
     let h : 4 * l.i + 4 ≤ length a.words.now = omega (arith, c.loop-i-test.true, c.requires.0) in
     let room : 16 * l.i + 16 ≤ length a.table.now = omega (arith, c.loop-i-test.true, c.requires.1) in
-    (omega (arith, c.loop-i-test.true), omega (arith, w.auto), w.ensures ∙ rw l.invariant.2 (entry_more a.words.now a.table.now l.i h room))
-
-pub returns : goal.returns
-returns c = let a = c.args in
-    let l = c.loop-i in
-    let e : l.i ≡ a.n = omega arith in
-    rw (← e) l.invariant.2
+    c.put_four.ensures ∙ rw l.invariant (entry_more a.words.now a.table.now l.i h room)

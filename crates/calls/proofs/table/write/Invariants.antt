@@ -1,12 +1,9 @@
 -- `write`: after i turns the words of the first i entries are laid over the table. Assumes nothing.
-use lib.ListN.{length, take}
-use Prim.Native.Nat.{◌*◌, ◌≤◌, ◌-◌}
+use lib.ListN.{take}
+use Prim.Native.Nat.{◌*◌}
 use Rattle.words.specs.Words.{words_bytes, over}
 use mathlib.Core.Path.{◌≡◌}
 use Rattle.calls.proofs.table.write.Given as goal
 
 abbrev pub invariant-loop-i : goal.invariant-loop-i
-invariant-loop-i l = (l.i ≤ l.n) × (length l.table ≡ length l.initial.table) × (l.table ≡ over (words_bytes (take (4 * l.i) l.words)) l.initial.table)
-
-abbrev pub decreases-loop-i : goal.decreases-loop-i
-decreases-loop-i l = l.n - l.i
+invariant-loop-i l = l.table ≡ over (words_bytes (take (4 * l.i) l.words)) l.initial.table

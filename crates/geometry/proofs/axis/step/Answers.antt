@@ -5,4 +5,4 @@ use Rattle.geometry.proofs.axis.step.Goals as goal
 pub returns : goal.returns
 returns c =
     let a = c.args in
-    rw (c.raised.ensures, c.uint_adds.ensures) (fitted-sum a.d a.pd a.level)
+    rw (c.raised.ensures, c.saturating_add.ensures) (fitted-sum a.d a.pd a.level)

@@ -1,9 +1,8 @@
 -- `shifted`: the quotient shifted back is the number without what is left over, so that it is less just where something is; then the ceiling is one more than the
 -- quotient. By 2^32 or more it is 1, or 0 of 0. Assumes nothing.
 use Rattle.std.proofs.Common.{◌≡◌, ℕ, ◌+◌, ◌*◌, ◌/◌, ◌%◌, ◌^◌, ◌<◌, sym, ◌∙◌, mod-eq_of_lt, div-add-mod', arith, pow_pos, pow_mono}
-use Rattle.laws.specs.Ceiling.{ceil_div, ceil_on, ceil_off, ceil_one, ceil_small}
+use Rattle.laws.specs.Ceiling.{ceil_off, ceil_one}
 use Rattle.geometry.proofs.ceiling.shifted.Goals as goal
-use Rattle.geometry.proofs.ceiling.shifted.Goals.{Then-q-by}
 
 -- the shift back loses nothing
 back : (a by : ℕ) → a < 2 ^ 32 → a / 2 ^ by * 2 ^ by % 2 ^ 32 + a % 2 ^ by ≡ a
@@ -12,24 +11,12 @@ back a by h =
     let k : a / 2 ^ by * 2 ^ by < 2 ^ 32 = omega arith in
     rw (mod-eq_of_lt k) whole
 
--- where something is left over
-up : (c : Then-q-by) → ceil_div c.args.a (2 ^ c.args.by) ≡ c.args.a / 2 ^ c.args.by + 1
-up c =
-    let a = c.args in
-    ceil_off (2 ^ a.by) (pow_pos a.by) a.a (λ z. omega (arith, c.if-q-by.true, back a.a a.by (omega arith)))
-
-pub overflow_add-result : goal.overflow_add-result
-overflow_add-result c = let a = c.args in omega (arith, up (goal.at.overflow_add-result c).Then-q-by, ceil_small (2 ^ a.by) (pow_pos a.by) a.a)
-
 pub returns-then-q-by : goal.returns-then-q-by
-returns-then-q-by c = sym (up (goal.at.returns-then-q-by c).Then-q-by)
-
-pub returns-else-q-by : goal.returns-else-q-by
-returns-else-q-by c =
+returns-then-q-by c =
     let a = c.args in
-    sym (ceil_on (2 ^ a.by) (pow_pos a.by) a.a (omega (arith, c.if-q-by.false, back a.a a.by (omega arith))))
+    sym (ceil_off (2 ^ a.by) (pow_pos a.by) a.a (λ z. omega (arith, c.if-q-by.true, back a.a a.by (omega arith))))
 
 pub returns-else-by-lt32 : goal.returns-else-by-lt32
 returns-else-by-lt32 c =
     let a = c.args in
-    c.uint_min.ensures ∙ sym (ceil_one (2 ^ a.by) (pow_pos a.by) a.a (omega (arith, pow_mono {i = 32} {j = a.by} (omega arith))))
+    c.min.ensures ∙ sym (ceil_one (2 ^ a.by) (pow_pos a.by) a.a (omega (arith, pow_mono {i = 32} {j = a.by} (omega arith))))

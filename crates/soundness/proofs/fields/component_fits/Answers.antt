@@ -8,4 +8,4 @@ returns-then-there c = cc
 
 pub returns-else-there : goal.returns-else-there
 unfolding component_fits
-returns-else-there c = cc
+returns-else-there c = rw (c.eq.ensures, c.none.ensures) (cc)

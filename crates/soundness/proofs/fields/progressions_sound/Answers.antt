@@ -1,27 +1,23 @@
--- `progressions_sound`: the loop tests every place of the array. Assumes nothing.
-use Rattle.soundness.proofs.InRange.{progression_at, progressions-parts}
-use Rattle.soundness.specs.Fields.{progression_fits}
+-- `progressions_sound`: the loop tests every place of the array; one that is not good ends it. Assumes nothing.
+use Rattle.std.specs.Prelude.{◌≡◌}
+use Rattle.std.proofs.Common.{sym, ◌∙◌, arith}
 use Rattle.laws.specs.Below.{all_none, all_more, all_fails}
-use Prim.Native.Nat.{◌-◌}
-use mathlib.Core.Bool.{true}
-use mathlib.Core.Path.{◌≡◌, sym, ◌∙◌}
-use native.Mathlib.Omega.{arith}
+use Rattle.soundness.proofs.InRange.{progression_at, progressions-parts}
 use Rattle.soundness.proofs.fields.progressions_sound.Goals as goal
 
 pub loop-k-init : goal.loop-k-init
-loop-k-init c = (omega arith, all_none _)
+loop-k-init c = all_none _
 
 pub loop-k-preserved : goal.loop-k-preserved
-loop-k-preserved c = let l = c.loop-k in (omega arith, all_more _ l.k l.invariant.1 (sym c.progression_fits-good.ensures ∙ c.if-good.true))
+loop-k-preserved c = all_more _ _ c.loop-k.invariant (sym c.progression_fits.ensures ∙ c.if-not-progression_fits.false)
 
-pub returns-else-good : goal.returns-else-good
-returns-else-good c = let l = c.loop-k in
+pub returns-then-not-progression_fits : goal.returns-then-not-progression_fits
+returns-then-not-progression_fits c =
     let st = c.args.st in
-    let f = all_fails (progression_at st) 32 l.k (omega arith) (sym c.progression_fits-good.ensures ∙ c.if-good.false) in
-    sym (sym (progressions-parts st (omega arith)) ∙ f)
+    let f = all_fails (progression_at st) 32 c.loop-k.k (omega arith) (sym c.progression_fits.ensures ∙ c.if-not-progression_fits.true) in
+    sym f ∙ progressions-parts st c.requires
 
 pub returns : goal.returns
-returns c = let l = c.loop-k in
-    let st = c.args.st in
-    let e : l.k ≡ 32 = omega arith in
-    sym (sym (progressions-parts st (omega arith)) ∙ (rw e at l.invariant.1))
+returns c =
+    let end : c.loop-k.k ≡ 32 = omega arith in
+    sym (rw end at c.loop-k.invariant) ∙ progressions-parts c.args.st c.requires

@@ -1,20 +1,15 @@
--- `raise`: each turn raises one resolution. The measure is what is left up to b. Assumes nothing.
-use native.Mathlib.Omega.{arith}
-use Prim.Native.Nat.{◌-◌, max}
+-- `raise`: each turn raises one resolution. Assumes nothing.
+use Rattle.std.proofs.Common.{arith}
 use Rattle.soundness.proofs.Counting.{raised_none, raised_more, raised-all}
 use Rattle.soundness.proofs.totals.raise.Goals as goal
 
 pub loop-r-init : goal.loop-r-init
-loop-r-init c = (omega arith, omega arith, raised_none c.args.most.now c.args.a c.args.layers c.requires.1)
+loop-r-init c = record { near = omega arith; raised = raised_none c.args.most.now c.args.a c.args.layers c.requires.1 }
 
 pub loop-r-preserved : goal.loop-r-preserved
 loop-r-preserved c =
     let a = c.args in
-    let l = c.loop-r in
-    (omega arith, omega arith, rw c.uint_max.ensures (raised_more a.most.now a.a a.layers l.invariant.0 (omega arith) l.invariant.2))
+    record { near = omega arith; raised = rw c.max.ensures (raised_more a.most.now a.a a.layers (omega arith) (omega arith) c.loop-r.invariant.raised) }
 
 pub returns : goal.returns
-returns c =
-    let a = c.args in
-    let l = c.loop-r in
-    raised-all a.most.now a.a a.layers l.invariant.1 c.loop-r-test.false l.invariant.2
+returns c = let a = c.args in raised-all a.most.now a.a a.layers c.loop-r.invariant.near (omega arith) c.loop-r.invariant.raised

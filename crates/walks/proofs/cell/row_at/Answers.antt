@@ -1,58 +1,41 @@
--- `row_at`: the prepared numbers answer for a row as the sheet does (RowLaws); one sheet that they stand for shows that no step is 0 and that nothing wraps. Assumes nothing.
+-- `row_at`: what is prepared answers for a row as the sheet does (RowLaws); one sheet that it stands for shows that no step is 0 and that nothing wraps.
+-- Assumes nothing.
 use mathlib.Core.Path.{◌≡◌, sym, ap, ◌∙◌}
 use mathlib.Core.Bool.{true}
-use Prim.Native.Nat.{◌≤◌, ◌<◌}
 use native.Mathlib.Omega.{arith}
-use Rattle.walks.specs.declared.prepared.Along.{Along}
-use Rattle.walks.specs.Prepared.{width_in, along_y, hit_by}
+use Rattle.std.specs.Prelude.{Some}
+use Rattle.walks.specs.Prepared.{unprepared, kept, kept_in, hit_by}
 use Rattle.walks.specs.RowLaws.{row_none, row_missed, row-met, row-step, row_from, row-small}
 use Rattle.walks.proofs.cell.row_at.Goals as goal
-use Rattle.walks.proofs.cell.row_at.Goals.{Else-not-hits, Else-width-eq0}
+use Rattle.walks.proofs.cell.row_at.Goals.{In_ok-p, Else-not-hits}
 
--- there are precincts, the step is above 0, and the row meets some
-wide : (c : Else-width-eq0) → (let a = c.args in 0 < width_in a.prep.now a.r a.c)
-wide c = omega (arith, c.if-width-eq0.false, c.width_at-width.ensures)
+-- something is kept, and the row meets a precinct
+keeps : (c : In_ok-p) → (let a = c.args in kept_in a.prep.now a.r a.c ≡ Some c.in_ok-p.p)
+keeps c = sym (c.kept.ensures ∙ ap kept (c.at.ensures unprepared)) ∙ c.in_ok-p.was
 
-steps : (c : Else-width-eq0) → (let a = c.args in 1 ≤ (along_y a.prep.now a.r a.c).step)
-steps c = let a = c.args in let w = c.requires in row-step w.0 a.prep.now a.r a.c a.y w.1 (wide c)
+meets : (c : Else-not-hits) → hit_by c.in_ok-p.p.y c.args.y ≡ true
+meets c = sym c.hits.ensures ∙ c.if-not-hits.false
 
-meets : (c : Else-not-hits) → (let a = c.args in hit_by (along_y a.prep.now a.r a.c) a.y ≡ true)
-meets c = ap (λ (k : Along). hit_by k c.args.y) (sym c.along_y-rows.ensures) ∙ sym c.hits.ensures ∙ c.if-not-hits.false
-
-pub returns-then-width-eq0 : goal.returns-then-width-eq0
-returns-then-width-eq0 c = let a = c.args in λ s h. row_none s a.prep.now a.r a.c a.y h (sym c.width_at-width.ensures ∙ c.if-width-eq0.true)
+pub returns-in_err-p : goal.returns-in_err-p
+returns-in_err-p c = λ s h. c.from_residual.ensures ∙ row_none s _ _ _ _ h (sym (c.kept.ensures ∙ ap kept (c.at.ensures unprepared)) ∙ c.in_err-p.was)
 
 pub hits-requires : goal.hits-requires
-hits-requires c = rw c.along_y-rows.ensures (steps (goal.at.hits-requires c).Else-width-eq0)
+hits-requires c = let w = c.requires in row-step w.0 _ _ _ _ w.1 _ (keeps (goal.at.hits-requires c).In_ok-p)
 
 pub returns-then-not-hits : goal.returns-then-not-hits
-returns-then-not-hits c =
-    let a = c.args in
-    let z = ap (λ (k : Along). hit_by k a.y) (sym c.along_y-rows.ensures) ∙ sym c.hits.ensures ∙ c.if-not-hits.true in
-    λ s h. row_missed s a.prep.now a.r a.c a.y h (wide (goal.at.returns-then-not-hits c).Else-width-eq0) z
+returns-then-not-hits c = λ s h. row_missed s _ _ _ _ h _ (keeps (goal.at.returns-then-not-hits c).In_ok-p) (sym c.hits.ensures ∙ c.if-not-hits.true)
 
 pub column-requires : goal.column-requires
 column-requires c =
-    let a = c.args in
     let w = c.requires in
-    rw c.along_y-rows.ensures (steps (goal.at.column-requires c).Else-width-eq0, row_from w.0 a.prep.now a.r a.c a.y w.1 (wide (goal.at.column-requires c).Else-width-eq0) (meets (goal.at.column-requires c).Else-not-hits))
+    let k = keeps (goal.at.column-requires c).In_ok-p in
+    (row-step w.0 _ _ _ _ w.1 _ k, row_from w.0 _ _ _ _ w.1 _ k (meets (goal.at.column-requires c).Else-not-hits))
 
 pub overflow_mul-result : goal.overflow_mul-result
 overflow_mul-result c =
-    let a = c.args in
     let w = c.requires in
-    rw (c.column.ensures, c.along_y-rows.ensures, c.width_at-width.ensures)
-    (omega (arith, row-small w.0 a.prep.now a.r a.c a.y w.1 (wide (goal.at.overflow_mul-result c).Else-width-eq0) (meets (goal.at.overflow_mul-result c).Else-not-hits)))
-
-pub overflow_add-result : goal.overflow_add-result
-overflow_add-result c =
-    let a = c.args in
-    let w = c.requires in
-    rw (c.column.ensures, c.along_y-rows.ensures, c.width_at-width.ensures)
-    (omega (arith, row-small w.0 a.prep.now a.r a.c a.y w.1 (wide (goal.at.overflow_add-result c).Else-width-eq0) (meets (goal.at.overflow_add-result c).Else-not-hits)))
+    let small = row-small w.0 _ _ _ _ w.1 _ (keeps (goal.at.overflow_mul-result c).In_ok-p) (meets (goal.at.overflow_mul-result c).Else-not-hits) in
+    rw c.column.ensures (omega (arith, small))
 
 pub returns : goal.returns
-returns c =
-    let a = c.args in
-    rw (c.column.ensures, c.along_y-rows.ensures, c.width_at-width.ensures)
-    (λ s h. row-met s a.prep.now a.r a.c a.y h (wide (goal.at.returns c).Else-width-eq0) (meets (goal.at.returns c).Else-not-hits))
+returns c = λ s h. rw c.column.ensures (row-met s _ _ _ _ h _ (keeps (goal.at.returns c).In_ok-p) (meets (goal.at.returns c).Else-not-hits))

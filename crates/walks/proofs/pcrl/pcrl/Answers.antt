@@ -1,35 +1,21 @@
 -- `pcrl` meets its contract. Each of the five loops keeps one thing, for every sheet and range that the walk is ready for (`Kept`): nothing is found yet, and
--- what is left at this loop answers as what was to be searched at entry. A turn is one law of specs/Pcrl or specs/Layers: LOOP-holds is an `in` law, LOOP-again
--- the `out` law of the inner loop. Assumes nothing.
-use mathlib.Core.Path.{◌≡◌}
-use mathlib.Core.Bool.{Bool, true, false}
-use mathlib.Core.List.{◌∷◌}
-use Prim.Native.Nat.{◌+◌, ◌<◌}
-use native.Mathlib.Omega.{arith}
-use Rattle.laws.specs.Marks.{free_at}
-use Rattle.types.specs.State.{origin}
-use Rattle.packets.specs.Tile.{Sheet, index_of}
-use Rattle.types.specs.declared.order.Range.{Range}
-use Rattle.packets.specs.Strided.{everything}
-use Rattle.packets.specs.InPlay.{next_x, next_y}
-use Rattle.walks.specs.Prepared.{point_of, cell_of}
-use Rattle.walks.specs.Walk.{Ready}
-use Rattle.walks.specs.Turns.{Stands, at-point, at_row, in_play_lem}
-use Rattle.walks.specs.Going.{◌then◌, starts, onward, splits, ends, turns, parts, leaves, passes, finds}
-use Rattle.walks.specs.AtPoint.{packet_of, layers_from, cell_from, out_l}
-use Rattle.walks.specs.Layers.{Layered, layer-fits, layer-read, cell-layered, cell-left, cell-passed}
-use Rattle.walks.specs.Pcrl.{left_r, after_x, in_y, out_y, in_x, out_x, in_c, out_c, in_r, out_r, column_is, row_is}
-use Rattle.walks.proofs.pcrl.pcrl.Invariants.{Kept}
+-- what is left at this loop answers as what was to be searched at entry. A turn is one law of specs/Pcrl or specs/ByPoints. Assumes nothing.
+use Rattle.std.proofs.Common.{arith, sym, refl}
+use mathlib.Core.List.{append-nil}
+use Rattle.walks.specs.Turns.{Stands, at-point}
+use Rattle.walks.specs.Going.{nothing, starts, splits, ends, turns, parts, leaves}
+use Rattle.walks.specs.Pcrl.{in_c, out_c, in_r, out_r}
+use Rattle.walks.specs.ByPoints.{layer_fits, past_cell, into_l, next_l, found_l, past_l, row-ready, farther_x, farther_y, past_y, into_x, into_c, next_x, next_y}
 use Rattle.walks.proofs.pcrl.pcrl.Goals as goal
-use Rattle.walks.proofs.pcrl.pcrl.Goals.{in-At+else-ls-test, in-Nothing, After-cell_at, After-is_free, After-next_column-x, After-next_row-y, In-ls, In-rs, In-search}
+use Rattle.walks.proofs.pcrl.pcrl.Goals.{in-Some+else-ls-test, in_default, In-rs}
 
 -- the numbers of the loops stand inside the ranges and the tile
 stands : (c : In-rs) → Stands c.args.w c.rs.r c.cs.c c.xs.x c.search.y
 stands c =
     record {
-      res_from = c.rs.invariant.0;
+      res_from = omega arith;
       res_to = c.rs-test.true;
-      comp_from = c.cs.invariant.0;
+      comp_from = omega arith;
       comp_to = c.cs-test.true;
       left = c.xs.invariant.0;
       right = c.xs-test.true;
@@ -37,148 +23,90 @@ stands c =
       bottom = c.search-test.true;
     }
 
--- what the cell answers, for every sheet that the walk is ready for
-cell-is : (c : After-cell_at) → Stands c.args.w c.rs.r c.cs.c c.xs.x c.search.y → (s : Sheet) (g : Range)
-    → Ready s g c.args.prep.now c.args.w c.args.marks.now → c.cell_at.result ≡ cell_of s c.rs.r c.cs.c c.xs.x c.search.y
-cell-is c i s g h = c.cell_at.ensures s (at-point s g _ _ _ h _ _ _ _ i)
-
--- the cell is first of what is left
-cell-first : (c : After-cell_at)
-    → (let a = c.args in
-    let x = c.xs.x in
-    let y = c.search.y in
-    let i = c.cs.c in
-    let r = c.rs.r in
-    Kept a.marks.now a.prep.now a.w a.y_from a.x_from a.c_from a.r_from a.l_from c.rs.found-1
-    (cell_from r i x y c.rs.l_at then left_r a.w y x i (r + 1) 0 then after_x a.w y x))
-cell-first c = parts _ _ _ _ _ _ c.rs.invariant.1 _ _ (λ s g h. in_r s g _ _ _ h _ _ _ _ _ c.rs-test.true)
-
--- the precinct that is met is one of the sheet's
-layered : (c : In-ls) → Stands c.args.w c.rs.r c.cs.c c.xs.x c.search.y → (s : Sheet) (g : Range)
-    → (let a = c.args in
-    Ready s g a.prep.now a.w a.marks.now → Layered s g a.w a.marks.now c.rs.r c.cs.c c.xs.x c.search.y c.in-At.k)
-layered c i s g h = cell-layered s g _ _ _ h _ _ _ _ i _ (c.cell_at.ensures s (at-point s g _ _ _ h _ _ _ _ i)) _ c.in-At.is
-
--- a layer is the next, and what is read of its mark is what the sheet's index finds
-read_here : (c : After-is_free) (s : Sheet) (g : Range)
-    → (let r = c.rs.r in
-    let i = c.cs.c in
-    let x = c.xs.x in
-    let y = c.search.y in
-    let k = c.in-At.k in
-    let l = c.ls.l in
-    Layered s g c.args.w c.args.marks.now r i x y k → (t : Bool) → c.is_free.result ≡ t
-    → (layers_from r i x y k l s g ≡ packet_of r i x y k l ∷ layers_from r i x y k (l + 1) s g)
-    × (free_at c.args.w.viewer c.args.marks.now (index_of s.st (packet_of r i x y k l)) ≡ t))
-read_here c s g h t e = layer-read s g _ _ _ _ _ _ _ h _ c.ls-test.true _ _ _ _ c.index-i.ensures c.is_free.ensures e
-
--- the next column and row, for every such sheet; and they grow
-column-here : (c : After-next_column-x) (s : Sheet) (g : Range)
-    → (let x = c.xs.x in
-    Ready s g c.args.prep.now c.args.w c.args.marks.now
-    → (c.next_column-x.result ≡ next_x s g everything (point_of 0 0 0 c.search.y) x) × (x < c.next_column-x.result))
-column-here c s g h =
-    column_is s g _ _ _ h _ _ _ (c.next_column-x.ensures s (at_row s g _ _ _ h _ c.search.invariant.0 c.search-test.true))
-
-column-up : (c : After-next_column-x) → c.xs.x < c.next_column-x.result
-column-up c = let p = c.requires.some_ready in (column-here c p.0 p.1.0 p.1.1).1
-
-row_here : (c : After-next_row-y) (s : Sheet) (g : Range)
-    → (let y = c.search.y in
-    Ready s g c.args.prep.now c.args.w c.args.marks.now
-    → (c.next_row-y.result ≡ next_y s g everything origin y) × (y < c.next_row-y.result))
-row_here c s g h = row_is s g _ _ _ h _ _ (c.next_row-y.ensures s (in_play_lem s g _ _ _ h _ _ _ _ (omega arith) (omega arith) (omega arith) (omega arith)))
-
-row_up : (c : After-next_row-y) → c.search.y < c.next_row-y.result
-row_up c = let p = c.requires.some_ready in (row_here c p.0 p.1.0 p.1.1).1
-
 pub search-init : goal.search-init
-search-init c = let p = c.requires.ty0_le_y_from in (p.0, p.1, p.2, p.3, starts _ _ _ _)
+search-init c = let p = c.requires.ty0_le_from in (p.0, p.1, p.2, p.3, splits _ _ _ _ _ (starts _ _ _ _) _ nothing (λ s g h. sym (append-nil _)))
 
 pub xs-init : goal.xs-init
 xs-init c =
-    let i = c.search.invariant in
-    (i.1, i.2, i.3, onward _ _ _ _ _ i.4 _ (λ s g h. in_y s g _ _ _ h _ _ _ _ _ i.0 c.search-test.true))
+    let k = c.search.invariant in
+    (k.1, k.2, k.3, into_x _ _ _ (λ g. g) _ (λ s g h. h) _ k.0 c.search-test.true _ _ _ _ _ _ k.4)
 
 pub cs-init : goal.cs-init
 cs-init c =
-    let i = c.xs.invariant in
-    (i.1, i.2, splits _ _ _ _ _ i.3 _ _ (λ s g h. in_x s g _ _ _ h _ _ _ _ _ c.search.invariant.0 c.search-test.true i.0 c.xs-test.true))
+    let k = c.xs.invariant in
+    (k.2, into_c _ _ _ (λ g. g) _ (λ s g h. h) _ c.search.invariant.0 c.search-test.true _ _ _ _ _ _ k.0 c.xs-test.true k.3)
 
 pub rs-init : goal.rs-init
-rs-init c = let i = c.cs.invariant in (i.1, turns _ _ _ _ _ _ i.2 _ (λ s g h. in_c s g _ _ _ h _ _ _ _ _ c.cs-test.true))
+rs-init c = turns _ _ _ _ _ _ c.cs.invariant.1 _ (λ s g h. in_c s g _ _ _ h _ _ _ _ _ c.cs-test.true)
 
 pub cell_at-requires : goal.cell_at-requires
 cell_at-requires c = let p = c.requires.some_ready in (p.0, at-point p.0 p.1.0 _ _ _ p.1.1 _ _ _ _ (stands (goal.at.cell_at-requires c).In-rs))
 
 pub ls-init : goal.ls-init
 ls-init c =
-    turns _ _ _ _ _ _ (cell-first (goal.at.ls-init c).After-cell_at) _
-    (λ s g h. cell-left s g _ _ _ h _ _ _ _ (stands (goal.at.ls-init c).In-rs) _ (cell-is (goal.at.ls-init c).After-cell_at (stands (goal.at.ls-init c).In-rs) s g h) _ _ c.in-At.is)
+    into_l _ _ _ _ _ _ _ (stands (goal.at.ls-init c).In-rs) _ c.cell_at.ensures _ _ _ _ c.in-Some.is
+    (parts _ _ _ _ _ _ c.rs.invariant _ _ (λ s g h. in_r s g _ _ _ h _ _ _ _ _ c.rs-test.true))
 
-pub index-i-requires : goal.index-i-requires
-index-i-requires c = let p = c.requires.some_ready in layer-fits _ _ _ _ _ _ _ _ _ (layered (goal.at.index-i-requires c).In-ls (stands (goal.at.index-i-requires c).In-rs) p.0 p.1.0 p.1.1) _ c.ls-test.true
+pub index-requires : goal.index-requires
+index-requires c = layer_fits _ _ _ _ _ _ _ (stands (goal.at.index-requires c).In-rs) _ c.cell_at.ensures c.requires.some_ready _ c.in-Some.is _ c.ls-test.true
 
 pub ls-preserved : goal.ls-preserved
-ls-preserved c = passes _ _ _ _ _ _ c.ls.invariant _ _ (λ s g h. read_here (goal.at.ls-preserved c).After-is_free s g (layered (goal.at.ls-preserved c).In-ls (stands (goal.at.ls-preserved c).In-rs) s g h) false c.if-is_free.false)
+ls-preserved c =
+    next_l _ _ _ _ _ _ _ (stands (goal.at.ls-preserved c).In-rs) _ c.cell_at.ensures _ _ _ _ c.in-Some.is c.ls-test.true _ _ c.index.ensures c.is_free.ensures c.ls.invariant c.if-is_free.false
 
 pub rs-preserved : goal.rs-preserved
-rs-preserved c = (
-  omega (arith, c.rs.invariant.0),
-  elim c.match-cell_at.branch [
-    | in-At+else-ls-test w ↦ rw w.found-is (leaves _ _ _ _ _ _ w.ls.invariant (λ s g h. out_l s g _ _ _ _ _ _ (rw h.ranged.layno1 at w.ls-test.false)))
-    | in-Nothing w ↦
-        let i = stands (goal.at.rs-preserved c).In-rs in
-        let d = (goal.at.rs-preserved c).After-cell_at in
-        rw w.found-is
-        (leaves _ _ _ _ _ _ (cell-first d) (λ s g h. cell-passed s g _ _ _ h _ _ _ _ i _ (cell-is d i s g h) _ w.in-Nothing.is))
-  ],
-)
+rs-preserved c = rw c.first-at.ensures (elim c.match-cell_at.branch [
+  | in-Some+else-ls-test w ↦ rw w.found-is (past_l _ _ _ _ _ _ _ _ _ _ _ w.ls-test.false w.ls.invariant)
+  | in_default w ↦
+      rw w.found-is
+      (past_cell _ _ _ _ _ _ _ (stands (goal.at.rs-preserved c).In-rs) _ c.cell_at.ensures _ _ _ w.in_default.is (parts _ _ _ _ _ _ c.rs.invariant _ _ (λ s g h. in_r s g _ _ _ h _ _ _ _ _ c.rs-test.true)))
+])
 
 pub cs-preserved : goal.cs-preserved
-cs-preserved c = (
-  omega (arith, c.cs.invariant.0),
-  omega arith,
-  turns _ _ _ _ _ _ c.rs.invariant.1 _ (λ s g h. out_r s g _ _ _ h _ _ _ _ _ c.rs-test.false),
-)
+cs-preserved c = rw c.first-at-in-cs.ensures (omega arith, turns _ _ _ _ _ _ c.rs.invariant _ (λ s g h. out_r s g _ _ _ h _ _ _ _ _ c.rs-test.false))
 
 pub next_column-x-requires : goal.next_column-x-requires
-next_column-x-requires c =
-    let p = c.requires.some_ready in
-    (c.xs-test.true, (p.0, at_row _ _ _ _ _ p.1.1 _ c.search.invariant.0 c.search-test.true))
+next_column-x-requires c = (c.xs-test.true, row-ready _ _ _ (λ g. g) _ (λ s g h. h) _ c.search.invariant.0 c.search-test.true c.requires.some_ready)
 
 pub xs-smaller : goal.xs-smaller
-xs-smaller c = omega (arith, column-up (goal.at.xs-smaller c).After-next_column-x, c.xs-test.true)
+xs-smaller c =
+    omega (arith, farther_x _ _ _ (λ g. g) _ (λ s g h. h) _ c.search.invariant.0 c.search-test.true c.requires.some_ready _ _ c.next_column-x.ensures, c.xs-test.true)
 
 pub xs-preserved : goal.xs-preserved
-xs-preserved c = (
-  omega (arith, column-up (goal.at.xs-preserved c).After-next_column-x, c.xs.invariant.0),
-  omega arith,
-  omega arith,
-  onward _ _ _ _ _ (leaves _ _ _ _ _ _ c.cs.invariant.2 (λ s g h. out_c s g _ _ _ h _ _ _ _ _ c.cs-test.false)) _ (λ s g h. rw (column-here (goal.at.xs-preserved c).After-next_column-x s g h).0),
-)
+xs-preserved c =
+    let k = c.search.invariant in rw c.first-at-in-xs.ensures (
+      omega (arith, farther_x _ _ _ (λ g. g) _ (λ s g h. h) _ k.0 c.search-test.true c.requires.some_ready _ _ c.next_column-x.ensures, c.xs.invariant.0),
+      omega arith,
+      omega arith,
+      next_x _ _ _ (λ g. g) _ (λ s g h. h) _ k.0 c.search-test.true _ _ _ _ c.next_column-x.ensures
+          (leaves _ _ _ _ _ _ c.cs.invariant.1 (λ s g h. out_c s g _ _ _ h _ _ _ _ _ c.cs-test.false)),
+    )
 
 pub next_row-y-requires : goal.next_row-y-requires
 next_row-y-requires c =
-    let p = c.requires.some_ready in
-    (c.search-test.true, (p.0, in_play_lem _ _ _ _ _ p.1.1 _ _ _ _ (omega arith) (omega arith) (omega arith) (omega arith)))
+    let p = row-ready _ _ _ (λ g. g) _ (λ s g h. h) _ c.search.invariant.0 c.search-test.true c.requires.some_ready in
+    (c.search-test.true, (p.0, p.1.play))
 
 pub search-smaller : goal.search-smaller
-search-smaller c = omega (arith, row_up (goal.at.search-smaller c).After-next_row-y, c.search-test.true)
+search-smaller c =
+    omega (arith, farther_y _ _ _ (λ g. g) _ (λ s g h. h) _ c.search.invariant.0 c.search-test.true c.requires.some_ready _ c.next_row-y.ensures, c.search-test.true)
 
 pub search-preserved : goal.search-preserved
-search-preserved c = (
-  omega (arith, row_up (goal.at.search-preserved c).After-next_row-y, c.search.invariant.0),
-  omega arith,
-  omega arith,
-  omega arith,
-  onward _ _ _ _ _ c.xs.invariant.3 _ (λ s g h. rw (row_here (goal.at.search-preserved c).After-next_row-y s g h).0 (out_x s g _ _ _ h _ _ _ _ _ c.xs-test.false)),
-)
+search-preserved c =
+    let k = c.search.invariant in rw c.first-at-in-search.ensures (
+      omega (arith, farther_y _ _ _ (λ g. g) _ (λ s g h. h) _ k.0 c.search-test.true c.requires.some_ready _ c.next_row-y.ensures, k.0),
+      omega arith,
+      omega arith,
+      omega arith,
+      next_y _ _ _ (λ g. g) _ (λ s g h. h) _ k.0 c.search-test.true _ _ _ _ _ _ _ c.next_row-y.ensures c.xs-test.false c.xs.invariant.3,
+    )
 
 -- left by the outermost test: nothing is left
 pub returns-after-search : goal.returns-after-search
-returns-after-search c = ends _ _ _ _ _ c.search.invariant.4 (λ s g h. out_y s g _ _ _ h _ _ _ _ _ c.search-test.false)
+returns-after-search c =
+    ends _ _ _ _ _ (past_y _ _ _ (λ g. g) _ (λ s g h. h) _ _ _ _ _ _ _ c.search-test.false c.search.invariant.4) (λ s g h. refl)
 
 -- left by the break: what is free is found
 pub returns-then-is_free : goal.returns-then-is_free
-returns-then-is_free c = finds _ _ _ _ _ _ c.ls.invariant _ _ (λ s g h. read_here (goal.at.returns-then-is_free c).After-is_free s g (layered (goal.at.returns-then-is_free c).In-ls (stands (goal.at.returns-then-is_free c).In-rs) s g h) true c.if-is_free.true)
+returns-then-is_free c =
+    found_l _ _ _ _ _ _ _ (stands (goal.at.returns-then-is_free c).In-rs) _ c.cell_at.ensures _ _ _ _ c.in-Some.is c.ls-test.true _ _ c.index.ensures c.is_free.ensures c.ls.invariant c.if-is_free.true

@@ -1,47 +1,27 @@
 -- `pcrl` meets its contract. Each of the five loops keeps one thing, for every sheet and range that the walk is ready for (`Kept`): nothing is found yet, and
--- what is left at this loop answers as what was to be searched at entry. A turn is one law of specs/Pcrl or specs/Layers: LOOP-holds is an `in` law, LOOP-again
--- the `out` law of the inner loop. Assumes nothing.
-use mathlib.Core.List.{List}
-use Prim.Native.Nat.{ℕ, ◌+◌, ◌-◌, ◌≤◌}
-use Rattle.walks.specs.Walk.{Ready}
-use Rattle.walks.specs.Going.{Going, Rest, ◌then◌}
+-- what is left at this loop answers as what was to be searched at entry. A turn is one law of specs/Pcrl or specs/ByPoints. Assumes nothing.
+use Rattle.std.proofs.Common.{◌+◌, ◌-◌, ◌≤◌}
+use Rattle.walks.specs.Going.{◌then◌, nothing}
 use Rattle.walks.specs.AtPoint.{layers_from}
-use Rattle.walks.specs.Pcrl.{entry, point, left_x, left_r, after_x}
-use Rattle.walks.specs.declared.walk.Walk.{Walk}
-use Rattle.walks.specs.declared.walk.Found.{Found}
+use Rattle.walks.specs.Pcrl.{entry, entry_at, point, left_x, left_r, after_x}
+use Rattle.walks.specs.ByPoints.{Kept}
 use Rattle.walks.proofs.pcrl.pcrl.Given as goal
-
--- nothing is found yet, and the rest answers as the whole at entry
-abbrev pub Kept : List ℕ → List ℕ → Walk → ℕ → ℕ → ℕ → ℕ → ℕ → Found → Rest → Type 0
-Kept marks prep w y x c r l found rest = Going w.viewer (λ s g. Ready s g prep w marks) marks (entry y x c r l) found rest
 
 abbrev pub invariant-ls : goal.invariant-ls
 invariant-ls l =
-    Kept l.marks l.prep l.w l.y_from l.x_from l.c_from l.r_from l.l_from l.found (layers_from l.r l.c l.x l.y l.k l.l then left_r l.w l.y l.x l.c (l.r + 1) 0 then after_x l.w l.y l.x)
-
-abbrev pub decreases-ls : goal.decreases-ls
-decreases-ls l =
-    l.w.layno1 - l.l
+    Kept l.prep l.w l.marks (entry_at l.fn.from) l.found (layers_from l.r l.c l.x l.y l.k l.l then left_r l.w l.y l.x l.c (l.r + 1) 0 then after_x l.w l.y l.x then nothing)
 
 abbrev pub invariant-rs : goal.invariant-rs
 invariant-rs l =
-    (l.w.resno0 ≤ l.r) × Kept l.marks l.prep l.w l.y_from l.x_from l.c_from l.r_from l.l_from l.found (left_r l.w l.y l.x l.c l.r l.l_at then after_x l.w l.y l.x)
-
-abbrev pub decreases-rs : goal.decreases-rs
-decreases-rs l =
-    l.w.resno1 - l.r
+    Kept l.prep l.w l.marks (entry_at l.fn.from) l.found (left_r l.w l.y l.x l.c l.r l.at.layno then after_x l.w l.y l.x then nothing)
 
 abbrev pub invariant-cs : goal.invariant-cs
 invariant-cs l =
-    (l.w.compno0 ≤ l.c) × (l.w.resno0 ≤ l.r_at) × Kept l.marks l.prep l.w l.y_from l.x_from l.c_from l.r_from l.l_from l.found (point l.y l.x l.c l.r_at l.l_at then after_x l.w l.y l.x)
-
-abbrev pub decreases-cs : goal.decreases-cs
-decreases-cs l =
-    l.w.compno1 - l.c
+    (l.w.resno0 ≤ l.at.resno) × Kept l.prep l.w l.marks (entry_at l.fn.from) l.found (point l.y l.x l.c l.at.resno l.at.layno then after_x l.w l.y l.x then nothing)
 
 abbrev pub invariant-xs : goal.invariant-xs
 invariant-xs l =
-    (l.w.tx0 ≤ l.x) × (l.w.compno0 ≤ l.c_at) × (l.w.resno0 ≤ l.r_at) × Kept l.marks l.prep l.w l.y_from l.x_from l.c_from l.r_from l.l_from l.found (left_x l.w l.y l.x l.c_at l.r_at l.l_at)
+    (l.w.tx0 ≤ l.x) × (l.w.compno0 ≤ l.at.compno) × (l.w.resno0 ≤ l.at.resno) × Kept l.prep l.w l.marks (entry_at l.fn.from) l.found (left_x l.w l.y l.x l.at.compno l.at.resno l.at.layno then nothing)
 
 abbrev pub decreases-xs : goal.decreases-xs
 decreases-xs l =
@@ -49,7 +29,7 @@ decreases-xs l =
 
 abbrev pub invariant-search : goal.invariant-search
 invariant-search l =
-    (l.w.ty0 ≤ l.y) × (l.w.tx0 ≤ l.x_at) × (l.w.compno0 ≤ l.c_at) × (l.w.resno0 ≤ l.r_at) × Kept l.marks l.prep l.w l.y_from l.x_from l.c_from l.r_from l.l_from l.found (entry l.y l.x_at l.c_at l.r_at l.l_at)
+    (l.w.ty0 ≤ l.y) × (l.w.tx0 ≤ l.at.x) × (l.w.compno0 ≤ l.at.compno) × (l.w.resno0 ≤ l.at.resno) × Kept l.prep l.w l.marks (entry_at l.fn.from) l.found (entry l.y l.at.x l.at.compno l.at.resno l.at.layno then nothing)
 
 abbrev pub decreases-search : goal.decreases-search
 decreases-search l =

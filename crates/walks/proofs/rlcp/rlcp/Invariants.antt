@@ -1,48 +1,23 @@
 -- `rlcp` meets its contract. Each of the four loops keeps one thing, for every sheet and range that the walk is counted for (`Kept`): nothing is found yet, and
--- what is left at this loop answers as what was to be searched at entry. A turn is one law of specs/Rlcp or specs/Counts: LOOP-holds is an `in` law, LOOP-again
--- the `out` law of the inner loop. Assumes nothing.
-use mathlib.Core.List.{List}
-use Prim.Native.Nat.{ℕ, ◌+◌, ◌-◌, ◌≤◌}
-use Rattle.walks.specs.Walk.{Counted}
-use Rattle.walks.specs.Going.{Going, Rest, ◌then◌}
-use Rattle.walks.specs.Counts.{level, left_k}
-use Rattle.walks.specs.Rlcp.{entry, left_l}
-use Rattle.walks.specs.declared.walk.Walk.{Walk}
-use Rattle.walks.specs.declared.walk.Found.{Found}
+-- what is left at this loop answers as what was to be searched at entry. A turn is one law of specs/Rlcp or specs/Counts. Assumes nothing.
+use Rattle.std.proofs.Common.{◌+◌, ◌≤◌}
+use Rattle.walks.specs.Going.{◌then◌}
+use Rattle.walks.specs.Counts.{level, left_k, Kept}
+use Rattle.walks.specs.Rlcp.{entry, entry_at, left_l}
 use Rattle.walks.proofs.rlcp.rlcp.Given as goal
-
--- nothing is found yet, and the rest answers as the whole at entry
-abbrev pub Kept : List ℕ → List ℕ → Walk → ℕ → ℕ → ℕ → ℕ → Found → Rest → Type 0
-Kept marks counts w r l c k found rest = Going w.viewer (λ s g. Counted s g counts w marks) marks (entry r l c k) found rest
 
 abbrev pub invariant-ks : goal.invariant-ks
 invariant-ks l =
-    Kept l.marks l.counts l.w l.r_from l.l_from l.c_from l.k_from l.found (left_k l.l l.r l.c l.k then left_l l.w l.r (l.l + 1) l.w.compno0 0)
-
-abbrev pub decreases-ks : goal.decreases-ks
-decreases-ks l =
-    l.count - l.k
+    Kept l.counts l.w l.marks (entry_at l.fn.from) l.found (left_k l.l l.r l.c l.k then left_l l.w l.r (l.l + 1) l.w.compno0 0)
 
 abbrev pub invariant-cs : goal.invariant-cs
 invariant-cs l =
-    (l.w.compno0 ≤ l.c) × Kept l.marks l.counts l.w l.r_from l.l_from l.c_from l.k_from l.found (level l.l l.r l.c l.k_at then left_l l.w l.r (l.l + 1) l.w.compno0 0)
-
-abbrev pub decreases-cs : goal.decreases-cs
-decreases-cs l =
-    l.w.compno1 - l.c
+    Kept l.counts l.w l.marks (entry_at l.fn.from) l.found (level l.l l.r l.c l.at.precno then left_l l.w l.r (l.l + 1) l.w.compno0 0)
 
 abbrev pub invariant-ls : goal.invariant-ls
 invariant-ls l =
-    (l.w.compno0 ≤ l.c_at) × Kept l.marks l.counts l.w l.r_from l.l_from l.c_from l.k_from l.found (left_l l.w l.r l.l l.c_at l.k_at)
-
-abbrev pub decreases-ls : goal.decreases-ls
-decreases-ls l =
-    l.w.layno1 - l.l
+    (l.w.compno0 ≤ l.at.compno) × Kept l.counts l.w l.marks (entry_at l.fn.from) l.found (left_l l.w l.r l.l l.at.compno l.at.precno)
 
 abbrev pub invariant-search : goal.invariant-search
 invariant-search l =
-    (l.w.resno0 ≤ l.r) × (l.w.compno0 ≤ l.c_at) × Kept l.marks l.counts l.w l.r_from l.l_from l.c_from l.k_from l.found (entry l.r l.l_at l.c_at l.k_at)
-
-abbrev pub decreases-search : goal.decreases-search
-decreases-search l =
-    l.w.resno1 - l.r
+    (l.w.compno0 ≤ l.at.compno) × Kept l.counts l.w l.marks (entry_at l.fn.from) l.found (entry l.r l.at.layno l.at.compno l.at.precno)

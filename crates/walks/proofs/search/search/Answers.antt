@@ -2,12 +2,8 @@
 use mathlib.Core.Path.{◌∙◌}
 use native.Mathlib.Omega.{arith}
 use Rattle.laws.specs.Runs.{seek}
-use Rattle.walks.specs.Search.{first-startable}
 use Rattle.walks.specs.Plan.{fresh-left, at-startable, at-small, at-left}
 use Rattle.walks.proofs.search.search.Goals as goal
-
-pub search_from-requires : goal.search_from-requires
-search_from-requires c = let w = c.requires in ((w.0, w.1), rw c.first.ensures (first-startable c.args.plan.walk c.args.plan.order))
 
 pub next_try-requires : goal.next_try-requires
 next_try-requires c = let w = c.requires in at-small _ _ _ _ _ w.1 _ (rw c.in-At.is at w.2) (omega arith)

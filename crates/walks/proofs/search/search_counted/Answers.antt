@@ -1,32 +1,27 @@
--- `search_counted`: each order by counts has its walk; no other order is asked for, and without one nothing is left. Assumes nothing.
-use mathlib.Core.Path.{refl, sym, ap, ◌∙◌}
-use mathlib.Core.Bool.{true≢false}
+-- `search_counted`: a sound state can be counted, and each order by counts has its walk; without an order nothing is left. Assumes nothing.
+use Rattle.std.proofs.Common.{refl}
 use Rattle.laws.specs.Runs.{seek}
-use Rattle.types.specs.Orders.{by_points}
-use Rattle.walks.specs.Search.{some}
+use Rattle.walks.specs.Search.{some, other_counts}
+use Rattle.walks.specs.Plan.{planned-counted}
 use Rattle.walks.proofs.search.search_counted.Goals as goal
 
-pub lrcp-requires : goal.lrcp-requires
-lrcp-requires c = let w = c.requires in record { some_counted = w.1 (some c.in-Lrcp.is refl); resno0_le_r_from = (w.2.resolution, w.2.component) }
+pub count_precincts-requires-clause-sound : goal.count_precincts-requires-clause-sound
+count_precincts-requires-clause-sound c = (_, c.requires.0.1.sound)
 
-pub rlcp-requires : goal.rlcp-requires
-rlcp-requires c = let w = c.requires in record { some_counted = w.1 (some c.in-Rlcp.is refl); resno0_le_r_from = (w.2.resolution, w.2.component) }
+pub lrcp-requires-clause-some_counted : goal.lrcp-requires-clause-some_counted
+lrcp-requires-clause-some_counted c =
+    (_, (_, planned-counted _ _ _ _ _ c.requires.0.1 (some c.in-Lrcp.is refl) c.count_precincts.ensures))
+
+pub rlcp-requires-clause-some_counted : goal.rlcp-requires-clause-some_counted
+rlcp-requires-clause-some_counted c =
+    (_, (_, planned-counted _ _ _ _ _ c.requires.0.1 (some c.in-Rlcp.is refl) c.count_precincts.ensures))
 
 pub returns-in-Lrcp : goal.returns-in-Lrcp
-returns-in-Lrcp c = λ s g d. rw c.in-Lrcp.is (c.lrcp.ensures s g (d (some c.in-Lrcp.is refl)))
+returns-in-Lrcp c k d = rw c.in-Lrcp.is (c.lrcp.ensures _ _ (planned-counted _ _ _ _ _ d (some c.in-Lrcp.is refl) c.count_precincts.ensures))
 
 pub returns-in-Rlcp : goal.returns-in-Rlcp
-returns-in-Rlcp c = λ s g d. rw c.in-Rlcp.is (c.rlcp.ensures s g (d (some c.in-Rlcp.is refl)))
+returns-in-Rlcp c k d = rw c.in-Rlcp.is (c.rlcp.ensures _ _ (planned-counted _ _ _ _ _ d (some c.in-Rlcp.is refl) c.count_precincts.ensures))
 
-pub returns-in-Rpcl : goal.returns-in-Rpcl
-returns-in-Rpcl c = λ s g d. absurd (true≢false (sym (ap by_points c.in-Rpcl.is) ∙ c.requires.0))
-
-pub returns-in-Pcrl : goal.returns-in-Pcrl
-returns-in-Pcrl c = λ s g d. absurd (true≢false (sym (ap by_points c.in-Pcrl.is) ∙ c.requires.0))
-
-pub returns-in-Cprl : goal.returns-in-Cprl
-returns-in-Cprl c = λ s g d. absurd (true≢false (sym (ap by_points c.in-Cprl.is) ∙ c.requires.0))
-
-pub returns-in-NoPositions : goal.returns-in-NoPositions
+pub returns-in_default : goal.returns-in_default
 unfolding seek
-returns-in-NoPositions c = λ s g d. rw c.in-NoPositions.is
+returns-in_default c k d = rw (other_counts c.args.plan.order c.requires.2 c.in_default.not-Lrcp c.in_default.not-Rlcp)

@@ -1,32 +1,33 @@
--- `search_points`: each order by points has its walk, and no other order is asked for. Assumes nothing.
-use mathlib.Core.Path.{sym, ap, ◌∙◌}
-use mathlib.Core.Bool.{true≢false}
-use Rattle.types.specs.Orders.{by_points}
+-- `search_points`: a sound state can be prepared, and each order by points has its walk. Assumes nothing.
+use Rattle.walks.specs.Search.{three_points}
+use Rattle.walks.specs.Walk.{SomeReady}
+use Rattle.walks.specs.Plan.{planned-ready}
 use Rattle.walks.proofs.search.search_points.Goals as goal
+use Rattle.walks.proofs.search.search_points.Goals.{After-prepare}
 
-pub rpcl-requires : goal.rpcl-requires
-rpcl-requires c = let w = c.requires in let q = w.2.point w.0 in record { some_ready = w.1; resno0_le_r_from = (w.2.resolution, q.0, q.1, w.2.component) }
+ready : (c : After-prepare) → SomeReady c.prepare.new.prep c.args.plan.walk c.args.marks.now
+ready c = (_, (_, planned-ready _ _ _ _ _ c.requires.0.1 c.prepare.ensures c.requires.2))
 
-pub pcrl-requires : goal.pcrl-requires
-pcrl-requires c = let w = c.requires in let q = w.2.point w.0 in record { some_ready = w.1; ty0_le_y_from = (q.0, q.1, w.2.component, w.2.resolution) }
+pub prepare-requires-clause-sound : goal.prepare-requires-clause-sound
+prepare-requires-clause-sound c = (_, c.requires.0.1.sound)
 
-pub cprl-requires : goal.cprl-requires
-cprl-requires c = let w = c.requires in let q = w.2.point w.0 in record { some_ready = w.1; compno0_le_c_from = (w.2.component, q.0, q.1, w.2.resolution) }
+pub rpcl-requires-clause-some_ready : goal.rpcl-requires-clause-some_ready
+rpcl-requires-clause-some_ready c = ready (goal.at.rpcl-requires-clause-some_ready c).After-prepare
 
-pub returns-in-Lrcp : goal.returns-in-Lrcp
-returns-in-Lrcp c = λ s g d. absurd (true≢false (sym c.requires.0 ∙ ap by_points c.in-Lrcp.is))
+pub pcrl-requires-clause-some_ready : goal.pcrl-requires-clause-some_ready
+pcrl-requires-clause-some_ready c = ready (goal.at.pcrl-requires-clause-some_ready c).After-prepare
 
-pub returns-in-Rlcp : goal.returns-in-Rlcp
-returns-in-Rlcp c = λ s g d. absurd (true≢false (sym c.requires.0 ∙ ap by_points c.in-Rlcp.is))
+pub cprl-requires-clause-some_ready : goal.cprl-requires-clause-some_ready
+cprl-requires-clause-some_ready c = ready (goal.at.cprl-requires-clause-some_ready c).After-prepare
 
 pub returns-in-Rpcl : goal.returns-in-Rpcl
-returns-in-Rpcl c = λ s g d. rw c.in-Rpcl.is (c.rpcl.ensures s g d)
+returns-in-Rpcl c k d = rw c.in-Rpcl.is (c.rpcl.ensures _ _ (planned-ready _ _ _ _ _ d c.prepare.ensures c.requires.2))
 
 pub returns-in-Pcrl : goal.returns-in-Pcrl
-returns-in-Pcrl c = λ s g d. rw c.in-Pcrl.is (c.pcrl.ensures s g d)
+returns-in-Pcrl c k d = rw c.in-Pcrl.is (c.pcrl.ensures _ _ (planned-ready _ _ _ _ _ d c.prepare.ensures c.requires.2))
 
 pub returns-in-Cprl : goal.returns-in-Cprl
-returns-in-Cprl c = λ s g d. rw c.in-Cprl.is (c.cprl.ensures s g d)
+returns-in-Cprl c k d = rw c.in-Cprl.is (c.cprl.ensures _ _ (planned-ready _ _ _ _ _ d c.prepare.ensures c.requires.2))
 
-pub returns-in-NoPositions : goal.returns-in-NoPositions
-returns-in-NoPositions c = λ s g d. absurd (true≢false (sym c.requires.0 ∙ ap by_points c.in-NoPositions.is))
+pub returns-in_default : goal.returns-in_default
+returns-in_default c k d = absurd (three_points c.args.plan.order c.requires.2 c.in_default.not-Rpcl c.in_default.not-Pcrl c.in_default.not-Cprl)

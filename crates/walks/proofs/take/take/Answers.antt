@@ -1,5 +1,5 @@
 -- `take`: what the search of the planned progression finds is marked. Assumes nothing.
-use mathlib.Core.Path.{◌≡◌, refl, sym, ap, ◌∙◌}
+use mathlib.Core.Path.{◌≡◌, ap, ◌∙◌}
 use Prim.Native.Nat.{◌<◌}
 use native.Mathlib.Omega.{arith}
 use borrow.Author.Tests.{lt-ltb}
@@ -13,7 +13,7 @@ use Rattle.packets.specs.Tile.{index_of, needed}
 use Rattle.packets.specs.Grid.{change_of}
 use Rattle.types.specs.declared.cursor.Position.{Position}
 use Rattle.walks.specs.Marks.{mark_by}
-use Rattle.walks.specs.declared.walk.Found.TheVariants.{At}
+use Rattle.std.specs.Prelude.{Some}
 use Rattle.walks.specs.Walk.{answer_of}
 use Rattle.walks.specs.Plan.{goes_over, Planned, planned_walk}
 use Rattle.walks.specs.Taking.{strides_small, mark-at}
@@ -45,36 +45,24 @@ answer c d =
 -- what is found has its mark among those needed
 found : (c : After-search)
     → (let a = c.args in
-    Planned a.st a.table.now a.c.progression c.plan_of-plan.result a.marks.now → (p : Position) → c.search.result ≡ At p
+    Planned a.st a.table.now a.c.progression c.plan_of-plan.result a.marks.now → (p : Position) → c.search.result ≡ Some p
     → (mark_by c.plan_of-plan.result.walk p ≡ index_of a.st p) × (index_of a.st p < needed a.st))
 found c d p e = mark-at _ _ _ _ _ d c.args.c.place _ c.search.result p e (answer c d)
 
 pub plan_of-plan-requires : goal.plan_of-plan-requires
 plan_of-plan-requires c = let w = c.requires in let s = strides_small _ _ _ w.0 in (omega (arith, w.1.named, w.0.tile.progressions.1), s.0, s.1)
 
-pub search-requires : goal.search-requires
-search-requires c = (_, planned (goal.at.search-requires c).After-plan_of-plan, c.requires.1.admitted)
-
 pub index-requires : goal.index-requires
 index-requires c =
     let z = goal.at.index-requires c in
-    let m = found z.After-search (planned z.After-plan_of-plan) _ c.in-At.is in
+    let m = found z.After-search (planned z.After-plan_of-plan) _ c.in_ok-p.was in
     omega (arith, m.0, m.1, c.requires.0.few)
 
-pub returns-in-At : goal.returns-in-At
-returns-in-At c =
+pub returns-clause-marked : goal.returns-clause-marked
+returns-clause-marked c =
     let a = c.args in
-    let p = c.in-At.is in
-    let z = goal.at.returns-in-At c in
+    let z = goal.at.returns-clause-marked c in
     let d = planned z.After-plan_of-plan in
-    record {
-      found = ap answer_of (sym p) ∙ answer z.After-search d;
-      marked = c.set.ensures
-          ∙ set-marks a.c.viewer a.marks.now _ (lt-ltb _ 8 c.requires.1.viewer)
-          ∙ ap (mark_at a.c.viewer a.marks.now) (c.index.ensures ∙ (found z.After-search d _ p).0);
-    }
-
-pub returns-in-Nothing : goal.returns-in-Nothing
-returns-in-Nothing c =
-    let z = goal.at.returns-in-Nothing c in
-    record { found = ap answer_of (sym c.in-Nothing.is) ∙ answer z.After-search (planned z.After-plan_of-plan); marked = refl }
+    c.set.ensures
+    ∙ set-marks a.c.viewer a.marks.now _ (lt-ltb _ 8 c.requires.1.viewer)
+    ∙ ap (mark_at a.c.viewer a.marks.now) (c.index.ensures ∙ (found z.After-search d _ c.in_ok-p.was).0)

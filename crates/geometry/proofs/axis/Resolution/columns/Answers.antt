@@ -1,6 +1,5 @@
--- `columns`: by what floor and ceiling promise; the floor of the start is at most the ceiling of the end. Assumes nothing.
-use Rattle.std.proofs.Common.{◌^◌, ◌<◌, arith, pow_pos, le-ltb, lt-ltb}
-use Rattle.laws.specs.Ceiling.{floor_ceil}
+-- `columns`: by what floor and ceiling promise. Assumes nothing.
+use Rattle.std.proofs.Common.{◌<◌, arith, le-ltb, lt-ltb}
 use Rattle.geometry.specs.Precinct.{across}
 use Rattle.geometry.specs.Axis.{columns_of}
 use Rattle.geometry.proofs.axis.Resolution.columns.Goals as goal
@@ -8,10 +7,6 @@ use Rattle.geometry.proofs.axis.Resolution.columns.Goals as goal
 pub returns-then-self : goal.returns-then-self
 unfolding columns_of across
 returns-then-self c = rw (c.floored-first.ensures, le-ltb _ _ c.if-self.true)
-
-pub overflow_sub-count : goal.overflow_sub-count
-overflow_sub-count c = let a = c.args in
-    omega (arith, floor_ceil (2 ^ a.pd) (pow_pos a.pd) a.self.r0 a.self.r1 (omega (arith, c.if-self.false)))
 
 pub returns : goal.returns
 unfolding columns_of across

@@ -39,5 +39,5 @@ unfolding columns_of cell_of
 returns c =
     let a = c.args in
     let e = cell-fits a.self.r0 a.self.r1 a.pd a.i (there (goal.at.returns c).Else-columns-i) (omega arith) in
-    rw (c.least.ensures, c.raised-2.ensures, c.uint_max.ensures, c.raised.ensures, c.columns-columns.ensures)
+    rw (c.least.ensures, c.raised-2.ensures, c.max.ensures, c.raised.ensures, c.columns-columns.ensures)
     (λ j. record { r0 = e.0 j; r1 = e.1 j })

@@ -9,4 +9,4 @@ returns-then-q-eq-WHOLE_TILE c = rw (eq-eqb _ _ c.if-q-eq-WHOLE_TILE.true)
 
 pub returns : goal.returns
 unfolding range_of
-returns c = rw (ne_eqb _ _ c.if-q-eq-WHOLE_TILE.false, c.uint_min.ensures)
+returns c = rw (ne_eqb _ _ c.if-q-eq-WHOLE_TILE.false, c.min.ensures)

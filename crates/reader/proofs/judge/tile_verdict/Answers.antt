@@ -1,5 +1,0 @@
--- `tile_verdict`: the tests are those of the definition. Assumes nothing.
-use Rattle.reader.proofs.judge.tile_verdict.Goals as goal
-
-pub returns : goal.returns
-returns c = cc

@@ -1,5 +1,0 @@
--- `volume_verdict`: the tests are those of the definition. Assumes nothing.
-use Rattle.reader.proofs.judge.volume_verdict.Goals as goal
-
-pub returns : goal.returns
-returns c = cc

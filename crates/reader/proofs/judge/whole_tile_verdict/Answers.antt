@@ -1,5 +1,0 @@
--- `whole_tile_verdict`: the tests are those of the definition. Assumes nothing.
-use Rattle.reader.proofs.judge.whole_tile_verdict.Goals as goal
-
-pub returns : goal.returns
-returns c = cc

@@ -1,5 +1,0 @@
--- `tile_in_range`: the tests are those of the definition. Assumes nothing.
-use Rattle.types.proofs.state.State.tile_in_range.Goals as goal
-
-pub returns : goal.returns
-returns c = cc
