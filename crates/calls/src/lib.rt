@@ -1,4 +1,4 @@
-// The public calls: setup, opening, step, the rectangle of a precinct and whole run. Soundness, the test before every call on a state, is a crate of its own.
+// The public calls: setup, joining, opening, step, a precinct's rectangle and whole run. Soundness, the test before them, is a crate of its own.
 #![tactic(auto)]
 
 pub mod join;

@@ -53,8 +53,8 @@ pub fn setup_for(
     })
 }
 
-// Reads a sheet. If it is accepted, writes its table, clears the marks that it needs, and gives every viewer all packets that some progression admits (02, P8); a
-// refusal, -1 to -7, changes nothing.
+// Reads a sheet. If it is accepted, writes its table, clears the marks that it needs, and gives every viewer all packets that some progression admits (02,
+// P8); a refusal, -1 to -7, changes nothing.
 pub fn setup(sheet: &[u8], table: &mut [u8], marks: &mut [u8]) -> Result<Followed, Refusal>
     ensures says { (of_started result).number ≡ (start_of sheet.now table.old marks.old).number }
     ensures counts { (of_started result).followed ≡ (start_of sheet.now table.old marks.old).followed }

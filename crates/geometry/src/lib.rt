@@ -1,5 +1,5 @@
 // The lower layer: arithmetic, tile bounds, and one axis of the tile with its components, resolutions and precincts.
-// Every function is total: it answers a value, or refuses with the number that document 01 gives.
+// Every function is total: it answers a value, or `None`, to which specs/Said gives document 01's number.
 #![tactic(auto)]
 
 pub mod axis;

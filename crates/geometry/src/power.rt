@@ -20,6 +20,7 @@ pub(crate) fn raised(a: u32, by: u32) -> u32
 }
 
 // The smaller of a number and one of `raised` or `axis::step`, which is 0 where it does not fit: then it is larger than every number.
+// kept with that 0: definition `least_of`, by which the survey's theorems take the smallest step, reads it so
 pub fn least(a: u32, n: u32) -> u32
     ensures { result ≡ least_of a n }
 {

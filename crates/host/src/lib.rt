@@ -1,5 +1,5 @@
 // The exports for C (include/bonxigarth.h): plain numbers and byte buffers.
-// kept as numbers, the refusals and a tile's twelve words, and the clauses of each export written out: C calls them so, and a reader of the header reads them here
+// kept as numbers, and with clauses written out: C calls them so, and who reads the header reads them here
 #![tactic(auto)]
 
 ghost use Rattle.std.specs.Prelude.{◌≡◌};

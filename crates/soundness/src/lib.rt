@@ -54,7 +54,7 @@ pub fn marks_needed(f: Followed, table: &[u8], marks: &[u8], viewer: u32) -> Opt
     None
 }
 
-// Whether all that holds.
+// Whether `marks_needed` has an answer.
 pub fn followed_sound(f: Followed, table: &[u8], marks: &[u8], viewer: u32) -> bool
     ensures { result ≡ followed_sound f table.now marks.now viewer }
 {

@@ -14,6 +14,7 @@ use types::table::Entry;
 use words::{Four, four_at};
 
 // The bytes in which exponents stand, and whether the sizes after these are to be checked.
+// kept as a flag: the public `survey` is asked so (definition `survey_of`)
 #[derive(Clone, Copy)]
 pub(crate) struct Read<'a> {
     pub bytes: &'a [u8],

@@ -1,5 +1,5 @@
-// What is gathered over the resolutions of a component: the largest precinct count, and on each axis the smallest and the largest exponent of a step. Every step of
-// a component is its own times 2 to an exponent, so that these two tell the smallest step and whether every step fits 32 bits.
+// What is gathered over the resolutions of a component: the largest precinct count, and on each axis the smallest and the largest exponent of a step. Every
+// step of a component is its own times 2 to an exponent, so that these two tell the smallest step and whether every step fits 32 bits.
 ghost use Rattle.std.specs.Prelude.{◌≡◌, ◌*◌, ◌^◌, ◌≤◌, ◌<◌, min};
 ghost use Rattle.survey.specs.Passing.{start_exponents, with_exponent, fits_32, start_gathered, with_entry, sums_of};
 
@@ -12,7 +12,7 @@ use types::table::Entry;
 // The exponents of steps on one axis.
 #[derive(Clone, Copy)]
 pub(crate) struct Exponents {
-    // 32, with which no step fits, where there is none or each is larger
+    // 32, with which no step fits, where there is none or each is larger: the number that `min` leaves alone
     pub low: u32,
     pub high: u32,
 }

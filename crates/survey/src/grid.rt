@@ -69,7 +69,7 @@ fn fit_between(parts: &[Sums; State::COMPONENT_PLACES], c0: usize, c1: usize) ->
     true
 }
 
-// Those in the range of progression q have, where it wants it.
+// The components in the range of progression q have steps that fit, where it wants it.
 fn range_fits(st: State, q: Progression, parts: &[Sums; State::COMPONENT_PLACES]) -> bool
     requires { st.components ≤ 16 }
     ensures { result ≡ range_fits st parts.now q }
@@ -83,7 +83,7 @@ fn range_fits(st: State, q: Progression, parts: &[Sums; State::COMPONENT_PLACES]
     true
 }
 
-// So it is for every progression of st.
+// So for every progression of st.
 fn ranges_fit(st: State, parts: &[Sums; State::COMPONENT_PLACES]) -> bool
     requires { st.components ≤ 16 }
     ensures { result ≡ ranges_fit st parts.now }

@@ -34,6 +34,7 @@ pub enum Source {
 #[derive(Clone, Copy)]
 pub struct Findings {
     // the grid is agreed for every progression
+    // kept as a flag: the rest counts without it, and the words of the table are kept all the same (definition `kept_of`)
     pub grid: bool,
     // the marks needed; none where they are more than 65,536
     pub needed: Option<u32>,

@@ -8,7 +8,7 @@ pub(crate) struct Sums {
     pub most: u32,
     // every step of both axes
     pub fit: bool,
-    // 0xffff_ffff where there is none, or where each is larger
+    // 0xffff_ffff where there is none, or where each is larger: the number that `min` leaves alone
     pub x_least: u32,
     pub y_least: u32,
 }

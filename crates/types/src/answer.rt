@@ -40,7 +40,7 @@ pub enum NotOpened {
     NoSuch = -11,
 }
 
-// Joining: a viewer's bits of the needed marks are cleared (02, P4). Why it is refused.
+// Why joining, which clears a viewer's bits of the needed marks (02, P4), is refused.
 #[derive(Clone, Copy, PartialEq, Eq)]
 pub enum NotJoined {
     Unsound = -9,

@@ -28,7 +28,7 @@ impl Order {
     pub const CPRL: i32 = 4;
 
     // The order with a number.
-    // kept as a function: docs/CONTRACTS.md names it, and From would say no more
+    // kept as a function: From would say no more, and docs/CONTRACTS.md names it
     pub fn of(prg: i32) -> Self
         ensures { result ≡ order_of prg }
     {

@@ -12,7 +12,7 @@ pub struct Component {
 }
 
 // A progression as its record has it. Names are those of opj_poc_t.
-// kept as numbers, kind and prg: a state is whatever a caller makes of it, and soundness answers for every kind and every order (packets Sound.progression_good)
+// kept as numbers, kind and prg: a state is what a caller makes of it, and soundness answers for every one (packets Sound.progression_good)
 #[derive(Clone, Copy, PartialEq, Eq)]
 pub struct Progression {
     // 4, 6 for one whose steps need not divide one another, or 5 for one of the whole tile

@@ -35,6 +35,7 @@ impl Entry {
     }
 }
 
+// kept: of a field behind a reference the check does not know that it fits 32 bits; tried without, and the proof of `entries` did not close
 fn wide(x: u32) -> usize
     ensures { (result ≡ x) × (result < 4294967296) }
 {

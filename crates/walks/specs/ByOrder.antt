@@ -54,7 +54,8 @@ module _ {plan : Plan} (o : Order) (e : plan.order ≡ o) where
   -- what it asks for, and that it lists the progression
   module _
       (M : Known) (A : Asks)
-      (ready : (st : State) (table : List ℕ) (k : ℕ) (marks : List ℕ) → Planned st table k plan marks → M st table → A (sheet_at st table) (goes_over st (change_of st k)) marks)
+      (ready : (st : State) (table : List ℕ) (k : ℕ) (marks : List ℕ) → Planned st table k plan marks → M st table
+      → A (sheet_at st table) (goes_over st (change_of st k)) marks)
     where
       asks : (run : Run) → SomeRun M plan run → SomeListing A (whole_of o plan.walk) run
       asks run p =

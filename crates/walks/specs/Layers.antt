@@ -86,7 +86,8 @@ module _ (s : Sheet) (g : Range) (prep : Prep) (row : Firsts) (w : Walk) (marks 
   pointed_long other e = record { ready = ready_long s g prep w marks other e d.ready; point = d.point }
 
   -- one of them
-  pub pointed-cell : (first : Option ℕ) (r c : ℕ) → first ≡ first_in row r c → w.resno0 ≤ r → r < w.resno1 → w.compno0 ≤ c → c < w.compno1 → Celled s g prep first w marks r c x y
+  pub pointed-cell : (first : Option ℕ) (r c : ℕ) → first ≡ first_in row r c → w.resno0 ≤ r → r < w.resno1 → w.compno0 ≤ c → c < w.compno1
+      → Celled s g prep first w marks r c x y
   pointed-cell first r c e a b i j =
       let q = d.ready.ranged in
       let p = d.point in

@@ -45,7 +45,8 @@ module _ (w : Walk) (p : Position) (t : Total) where
       (λ f.
       let u : List Position = unlisted 0 ix (mark 0 ix t.marks p) ps in
       let c : t.count + length (p ∷ u) ≡ t.count + 1 + length u = omega arith in
-      rw (e, f, unlisted-free 0 ix t.marks p ps f) (ap (λ (k : ℕ). run_at k (marked 0 ix (mark 0 ix t.marks p) u) (put_packets (put_packet t.output (16 * t.count) p) (t.count + 1) u)) c))
+      let o = put_packets (put_packet t.output (16 * t.count) p) (t.count + 1) u in
+      rw (e, f, unlisted-free 0 ix t.marks p ps f) (ap (λ (k : ℕ). run_at k (marked 0 ix (mark 0 ix t.marks p) u) o) c))
       (λ f. rw (e, f, unlisted-taken 0 ix t.marks p ps f))
 
 -- the packet that is next was listed

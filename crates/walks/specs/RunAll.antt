@@ -79,7 +79,8 @@ pub record RestIn (st : State) (table : List ℕ) (counts : Counts) (run : Run) 
   pub few : Few (index_of st) run (from_on st table k)
 
 -- all of them
-pub all_in : (st : State) (table : List ℕ) (counts : Counts) (run : Run) → run.count ≡ 0 → Sound st table run.marks.now → AllCounted st table counts → RestIn st table counts run 0
+pub all_in : (st : State) (table : List ℕ) (counts : Counts) (run : Run)
+    → run.count ≡ 0 → Sound st table run.marks.now → AllCounted st table counts → RestIn st table counts run 0
 all_in st table counts run e d f = record { sound = d; counted = f; few = omega (arith, e, all-few st table run.marks.now d, d.few) }
 
 -- what a loop over the progressions keeps: the run's end from what is still to be listed is that from what was to be listed at entry

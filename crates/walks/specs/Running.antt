@@ -76,7 +76,8 @@ SomeRun M plan run =
 -- run b is run a once the planned progression is listed
 abbrev pub ListsPlanned : Known → Plan → Run → Run → Type 0
 ListsPlanned M plan a b =
-    (st : State) (table : List ℕ) (k : ℕ) → Planned st table k plan a.marks.now → M st table → Ran a b (total_of (index_of st) (total a) (positions_for st table k))
+    (st : State) (table : List ℕ) (k : ℕ) → Planned st table k plan a.marks.now → M st table
+    → Ran a b (total_of (index_of st) (total a) (positions_for st table k))
 
 -- records written in two goes
 puts_append : (o : List ℕ) (n : ℕ) (u v : List Position) → put_packets o n (u ++ v) ≡ put_packets (put_packets o n u) (n + length u) v
@@ -98,7 +99,8 @@ module _ (ix : Position → ℕ) (t : Total) where
   total-append a b =
       let u : List Position = unlisted 0 ix t.marks a in
       let v : List Position = unlisted 0 ix (marked 0 ix t.marks u) b in
-      let count : t.count + length (u ++ v) ≡ t.count + length u + length v = let l : length (u ++ v) ≡ length u + length v = length-append u v in omega arith in
+      let count : t.count + length (u ++ v) ≡ t.count + length u + length v
+      = let l : length (u ++ v) ≡ length u + length v = length-append u v in omega arith in
       ap (leaving ix t) (unlisted-append 0 ix t.marks a b)
       ∙ (λ i. run_at (count i) (marked-append 0 ix t.marks u v i) (puts_append t.output t.count u v i))
 

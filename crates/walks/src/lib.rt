@@ -1,5 +1,5 @@
 // The five walks and the five listings, over prepared numbers: what a step takes, and the listing of all progressions. Both ask for a sound state.
-// kept as five functions, the walks, each one nest of loops that its label leaves: document 01, 'Form by location'.
+// The walks are kept as five functions, each one nest of loops left by a label: document 01, 'Form by location'.
 #![tactic(auto)]
 
 mod by_resolution;

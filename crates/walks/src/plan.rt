@@ -11,7 +11,7 @@ use types::state::State;
 
 #[derive(Clone, Copy)]
 pub(crate) struct Plan {
-    // none also where the ranges admit no position
+    // NoPositions also where the ranges admit none
     pub order: Order,
     pub walk: Walk,
 }

@@ -14,7 +14,7 @@ use geometry::{axis, power};
 use types::state::State;
 use types::table::Entry;
 
-// The tile's start where it lies inside a precinct, else what no point is.
+// The tile's start where it lies inside a precinct, else what no point is: a number, so that a hit is one comparison.
 fn start(t: u32, low: u32, pd: u32) -> u32
     ensures { result ≡ cond (eqb (low % 2 ^ pd) 0) 4294967295 t }
 {

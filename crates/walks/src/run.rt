@@ -1,4 +1,4 @@
-// The listing of a progression, by its order, and of all of them in turn: the numbers that only the orders by points need are prepared once one of these is met.
+// The listing of a progression, by its order, and of all of them in turn: what only the orders by points need is prepared once one of these is met.
 ghost use Rattle.std.specs.Prelude.{◌≡◌, false, ℕ, List};
 ghost use Rattle.packets.specs.Tile.{index_of};
 ghost use Rattle.types.specs.Orders.{by_points};

@@ -9,7 +9,8 @@ use Rattle.walks.proofs.run.list_all.Goals as goal
 use Rattle.walks.proofs.run.list_all.Goals.{After-count_precincts}
 
 -- the precincts are counted
-counted : (c : After-count_precincts) (a : Run) → a.count ≡ 0 → a.marks.now ≡ c.args.marks.now → RestIn c.args.st c.args.table.now c.count_precincts.new.counts a 0
+counted : (c : After-count_precincts) (a : Run)
+    → a.count ≡ 0 → a.marks.now ≡ c.args.marks.now → RestIn c.args.st c.args.table.now c.count_precincts.new.counts a 0
 counted c a n e = all_in _ _ _ _ n (rw e c.requires) c.count_precincts.ensures
 
 pub count_precincts-requires-clause-sound : goal.count_precincts-requires-clause-sound

@@ -30,7 +30,8 @@ ks-preserved c =
     let t = stands (goal.at.ks-preserved c).In-cs in
     let e = c.at-precincts.ensures 0 in
     let k = c.ks-test.true in
-    λ s g h. one_listed (c.ks.invariant s g h) _ _ (in_k s g _ _ _ _ (below s g _ _ _ h _ _ _ t _ e _ k), mark_is s g _ _ _ h _ _ _ t _ e _ k) c.list_packet.ensures
+    λ s g h.
+    one_listed (c.ks.invariant s g h) _ _ (in_k s g _ _ _ _ (below s g _ _ _ h _ _ _ t _ e _ k), mark_is s g _ _ _ h _ _ _ t _ e _ k) c.list_packet.ensures
 
 pub cs-preserved : goal.cs-preserved
 cs-preserved c =

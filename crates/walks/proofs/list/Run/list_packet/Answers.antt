@@ -26,5 +26,6 @@ returns-else-is_free c =
     record {
       same_marks = refl;
       same_output = refl;
-      comes_to = listed-taken a.w a.p (total a.self.now) (ap (free_at 0 a.self.now.marks.now) (sym c.index-i.ensures) ∙ sym c.is_free.ensures ∙ c.if-is_free.false);
+      comes_to =
+          listed-taken a.w a.p (total a.self.now) (ap (free_at 0 a.self.now.marks.now) (sym c.index-i.ensures) ∙ sym c.is_free.ensures ∙ c.if-is_free.false);
     }

@@ -18,12 +18,15 @@ use Rattle.walks.proofs.list.Run.list_pcrl.Goals.{After-fill_row-below, After-li
 
 -- the next row; and it is further down
 below-is : (c : After-fill_row-below) (s : Sheet) (g : Range)
-    → (let a = c.args in let y = c.ys.y in Ready s g a.prep.now a.w a.self.now.marks.now → (c.fill_row-below.result ≡ next_y s g everything origin y) × (y < c.fill_row-below.result))
+    → (let a = c.args in
+    let y = c.ys.y in
+    Ready s g a.prep.now a.w a.self.now.marks.now → (c.fill_row-below.result ≡ next_y s g everything origin y) × (y < c.fill_row-below.result))
 below-is c s g h = row_is s g _ _ _ h _ _ (c.fill_row-below.ensures s (at_row s g _ _ _ h _ c.ys.invariant.0 c.ys-test.true)).1
 
 -- the point at which the loops stand
 pointed : (c : In-xs) (s : Sheet) (g : Range)
-    → (let a = c.args in Ready s g a.prep.now a.w a.self.now.marks.now → PointedAt a.prep.now c.fill_row-below.new.row a.w c.xs.x c.ys.y s g c.xs.self.marks.now)
+    → (let a = c.args in
+    Ready s g a.prep.now a.w a.self.now.marks.now → PointedAt a.prep.now c.fill_row-below.new.row a.w c.xs.x c.ys.y s g c.xs.self.marks.now)
 pointed c s g h =
     let r = at_row s g _ _ _ h _ c.ys.invariant.0 c.ys-test.true in
     let i = c.xs.invariant in
@@ -41,7 +44,9 @@ pointed c s g h =
 
 -- the next column; and it is further to the right
 next-is : (c : After-list_point-x) (s : Sheet) (g : Range)
-    → (let a = c.args in let x = c.xs.x in Ready s g a.prep.now a.w a.self.now.marks.now → (c.list_point-x.result ≡ next_x s g everything (point_of 0 0 0 c.ys.y) x) × (x < c.list_point-x.result))
+    → (let a = c.args in
+    let x = c.xs.x in
+    Ready s g a.prep.now a.w a.self.now.marks.now → (c.list_point-x.result ≡ next_x s g everything (point_of 0 0 0 c.ys.y) x) × (x < c.list_point-x.result))
 next-is c s g h = column_is s g _ _ _ h _ _ _ (c.list_point-x.ensures.next s g (pointed c.before.before.before s g h))
 
 pub fill_row-below-requires : goal.fill_row-below-requires
