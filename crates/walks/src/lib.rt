@@ -26,4 +26,4 @@ mod rpcl;
 pub mod run;
 mod search;
 pub mod take;
-pub mod walk;
+mod walk;

@@ -26,7 +26,7 @@ pub(crate) struct Walk {
 
 impl Walk {
     // The walk over resolutions r0 to r1 of components c0 to c1 alone.
-    pub fn part(self, r0: u32, r1: u32, c0: u32, c1: u32) -> Self
+    pub(crate) fn part(self, r0: u32, r1: u32, c0: u32, c1: u32) -> Self
         ensures { result ≡ part_by self r0 r1 c0 c1 }
     {
         Walk {
@@ -39,7 +39,7 @@ impl Walk {
     }
 
     // Its first position.
-    pub fn first(self) -> Position
+    pub(crate) fn first(self) -> Position
         ensures { result ≡ first_of self }
     {
         Position {
@@ -54,7 +54,7 @@ impl Walk {
 
     // Where the mark of a packet stands.
     #[tactic(auto, unfolding(crate::specs::Walk::index_by))]
-    pub fn index(self, p: Position) -> usize
+    pub(crate) fn index(self, p: Position) -> usize
         requires { mark_by self p < 65536 }
         ensures { result ≡ mark_by self p }
     {
