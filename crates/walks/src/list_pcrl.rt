@@ -13,7 +13,7 @@ use crate::by_resolution::ByResolution;
 use crate::list::Run;
 use crate::next::{column_step, nearer};
 use crate::prepared::Prepared;
-use crate::row::fill_row;
+use crate::row::{Firsts, fill_row};
 use crate::walk::Walk;
 use types::cursor::Position;
 
@@ -22,7 +22,7 @@ impl Run<'_> {
     fn list_point(
         &mut self,
         prep: &ByResolution<Prepared>,
-        row: &ByResolution<Option<u32>>,
+        row: &Firsts,
         w: Walk,
         x: u32,
         y: u32,
@@ -51,20 +51,19 @@ impl Run<'_> {
         x + best
     }
 
-    // Lists every packet of the ranges.
+    // Lists every packet of the ranges. The row is working space, lent so that a run clears one: RPCL and CPRL come here for each resolution or component.
     #[inline(always)]
-    pub(crate) fn list_pcrl(&mut self, prep: &ByResolution<Prepared>, w: Walk)
+    pub(crate) fn list_pcrl(&mut self, row: &mut Firsts, prep: &ByResolution<Prepared>, w: Walk)
         requires { SomeListing (ReadyBy prep.now w) (wholly w) self.old }
         ensures { Lists (ReadyBy prep.now w) (wholly w) self.old self.new }
     {
-        let mut row = ByResolution::blank();
         let mut y = w.ty0;
         // kept as while: y and x go on to the next row and column at which something is met, which are computed on the way
         'ys: while y < w.ty1 {
-            let below = fill_row(&mut row, prep, w, y);
+            let below = fill_row(row, prep, w, y);
             let mut x = w.tx0;
             'xs: while x < w.tx1 {
-                x = self.list_point(prep, &row, w, x, y);
+                x = self.list_point(prep, row, w, x, y);
             }
             y = below;
         }

@@ -12,13 +12,11 @@ use crate::next::{nearer, row_step};
 use crate::prepared::Prepared;
 use crate::walk::Walk;
 
+// Of each component and resolution the first precinct that a row meets, if it meets one.
+pub(crate) type Firsts = ByResolution<Option<u32>>;
+
 // Notes it for the resolutions and components of a walk (cell::row_at); answers the next row at which one of them can be met, and beyond the last the end.
-pub(crate) fn fill_row(
-    row: &mut ByResolution<Option<u32>>,
-    prep: &ByResolution<Prepared>,
-    w: Walk,
-    y: u32,
-) -> u32
+pub(crate) fn fill_row(row: &mut Firsts, prep: &ByResolution<Prepared>, w: Walk, y: u32) -> u32
     requires { (y < w.ty1) × SomeRow prep.now w.resno0 w.resno1 w.compno0 w.compno1 y }
     ensures { (s : Sheet) → AtRow s prep.now w.resno0 w.resno1 w.compno0 w.compno1 y → Row s row.new w.resno0 w.resno1 w.compno0 w.compno1 y × (result ≡ next_before w.ty1 (range_by w.resno0 w.resno1 w.compno0 w.compno1) (play_y s) (step_y s) y) }
 {

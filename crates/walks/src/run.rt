@@ -16,6 +16,7 @@ use crate::list::Run;
 use crate::plan::{Plan, plan_of};
 use crate::prepare::prepare;
 use crate::prepared::Prepared;
+use crate::row::Firsts;
 use types::cursor::Cursor;
 use types::order::Order;
 use types::state::State;
@@ -39,6 +40,7 @@ impl Run<'_> {
     fn list_progression(
         &mut self,
         counts: &ByResolution<u32>,
+        row: &mut Firsts,
         prep: &ByResolution<Prepared>,
         plan: Plan,
     )
@@ -47,9 +49,9 @@ impl Run<'_> {
     {
         let w = plan.walk;
         match plan.order {
-            Order::Rpcl => self.list_rpcl(prep, w),
-            Order::Pcrl => self.list_pcrl(prep, w),
-            Order::Cprl => self.list_cprl(prep, w),
+            Order::Rpcl => self.list_rpcl(row, prep, w),
+            Order::Pcrl => self.list_pcrl(row, prep, w),
+            Order::Cprl => self.list_cprl(row, prep, w),
             _ => self.list_counted(counts, plan),
         }
     }
@@ -61,9 +63,10 @@ impl Run<'_> {
     {
         let mut prep = ByResolution::blank();
         prepare(&mut prep, table, *st);
+        let mut row = ByResolution::blank();
         'runs: for k in k_from..st.progressions {
             let plan = plan_of(st, k, Cursor::WHOLE_RUN);
-            self.list_progression(counts, &prep, plan);
+            self.list_progression(counts, &mut row, &prep, plan);
         }
     }
 }

@@ -46,8 +46,10 @@ pointed c s g h =
 next-is : (c : After-list_point-x) (s : Sheet) (g : Range)
     → (let a = c.args in
     let x = c.xs.x in
-    Ready s g a.prep.now a.w a.self.now.marks.now → (c.list_point-x.result ≡ next_x s g everything (point_of 0 0 0 c.ys.y) x) × (x < c.list_point-x.result))
-next-is c s g h = column_is s g _ _ _ h _ _ _ (c.list_point-x.ensures.next s g (pointed c.before.before.before s g h))
+    Ready s g a.prep.now a.w a.self.now.marks.now
+    → PointedAt a.prep.now c.fill_row-below.new.row a.w x c.ys.y s g c.xs.self.marks.now
+    → (c.list_point-x.result ≡ next_x s g everything (point_of 0 0 0 c.ys.y) x) × (x < c.list_point-x.result))
+next-is c s g h p = column_is s g _ _ _ h _ _ _ (c.list_point-x.ensures.next s g p)
 
 pub fill_row-below-requires : goal.fill_row-below-requires
 fill_row-below-requires c =
@@ -73,17 +75,19 @@ list_point-x-requires c =
 pub xs-smaller : goal.xs-smaller
 xs-smaller c =
     let p = c.requires in
-    omega (arith, c.xs-test.true, (next-is (goal.at.xs-smaller c).After-list_point-x p.0 p.1.0 p.1.1).1)
+    let at = pointed (goal.at.xs-smaller c).In-xs p.0 p.1.0 p.1.1 in
+    omega (arith, c.xs-test.true, (next-is (goal.at.xs-smaller c).After-list_point-x p.0 p.1.0 p.1.1 at).1)
 
 pub xs-preserved : goal.xs-preserved
 xs-preserved c =
     let p = c.requires in
     let i = c.xs.invariant in
+    let at = pointed (goal.at.xs-preserved c).In-xs in
     let next = next-is (goal.at.xs-preserved c).After-list_point-x in (
-      omega (arith, i.0, (next p.0 p.1.0 p.1.1).1),
+      omega (arith, i.0, (next p.0 p.1.0 p.1.1 (at p.0 p.1.0 p.1.1)).1),
       λ s g h.
-          part_listed (i.1 s g h) (point _ _ _ _ _ s g) _ (rw (next s g h).0 (in_x s g _ _ _ h _ _ _ _ _ c.ys.invariant.0 c.ys-test.true i.0 c.xs-test.true))
-          (c.list_point-x.ensures.lists s g (pointed (goal.at.xs-preserved c).In-xs s g h)),
+          part_listed (i.1 s g h) (point _ _ _ _ _ s g) _ (rw (next s g h (at s g h)).0 (in_x s g _ _ _ h _ _ _ _ _ c.ys.invariant.0 c.ys-test.true i.0 c.xs-test.true))
+          (c.list_point-x.ensures.lists s g (at s g h)),
     )
 
 pub ys-smaller : goal.ys-smaller
