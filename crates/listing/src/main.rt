@@ -3,17 +3,20 @@
 // written is told on standard error, with status 1.
 #![tactic(auto)]
 
+mod read;
 mod text;
 
-use arrayvec::{ArrayString, ArrayVec};
+use crate::text::Text;
+use arrayvec::ArrayString;
 use std::fmt::Write;
 use std::io;
-use std::io::Read;
 use std::process::ExitCode;
 
 // Prints the listing of a sheet.
 fn print(rt: &impl Print, sheet: &[u8]) -> io::Result<()> {
-    rt.write_all(text::listing(sheet).as_str().as_bytes())
+    let mut text = Text::new();
+    text::listing(sheet, &mut text);
+    rt.write_all(text.as_str().as_bytes())
 }
 
 // Tells on standard error where reading or writing failed, and why: the system's words, without its number for them.
@@ -33,9 +36,9 @@ fn fail(rt: &impl Eprint, place: &str, error: io::Error) -> ExitCode {
 
 fn main(rt: HostRuntime) -> ExitCode {
     // one byte more than 577 records, so that a longer input is refused and not cut
-    let mut sheet = ArrayVec::<u8, 18465>::new();
-    match io::copy(&mut rt.stdin().take(18465), &mut sheet) {
-        Ok(_) => match print(&rt, &sheet) {
+    let mut sheet = [0u8; 18465];
+    match read::fill(&mut rt.stdin(), &mut sheet) {
+        Ok(n) => match print(&rt, &sheet[..n]) {
             Ok(()) => ExitCode::SUCCESS,
             Err(e) => fail(&rt, "standard output", e),
         },

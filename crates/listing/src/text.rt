@@ -61,16 +61,15 @@ fn put_refusal(text: &mut Text, n: u32)
 
 // What is printed for a sheet: 01's text. Lent are 01's 2,048 marks, with table and output large enough for any sheet that needs no more: 16 bytes for each of
 // 16 times 33 resolutions, and 16 for each mark.
-pub(crate) fn listing(sheet: &[u8]) -> Text
-    ensures { result.bytes ≡ text_of sheet.now }
+pub(crate) fn listing(sheet: &[u8], text: &mut Text)
+    ensures { text.new.bytes ≡ text_of sheet.now }
 {
+    text.clear();
     let mut table = [0u8; 8448];
     let mut marks = [0u8; 2048];
     let mut output = [0u8; 32768];
-    let mut text = Text::new();
     match calls::whole::whole_run(sheet, &mut table, &mut marks, &mut output) {
-        Ok(count) => put_packets(&mut text, &output, count),
-        Err(refusal) => put_refusal(&mut text, i32::from(refusal).unsigned_abs()),
+        Ok(count) => put_packets(text, &output, count),
+        Err(refusal) => put_refusal(text, i32::from(refusal).unsigned_abs()),
     }
-    text
 }
