@@ -172,7 +172,7 @@ module _ {b : List ℕ} {st : State} {f : Findings} (w : Seen b st f) (table mar
 
         state_is : record st { reports = f.reports } ≡ reported s
         unfolding reported
-        state_is = (λ i. record (w.fields i) { reports = (found i).reports }) ∙ rw prec_is refl
+        state_is = (λ i. record (w.fields i) { reports = (found i).reports }) ∙ rw (below, prec_is) refl
 
         -- accepted
         pub accepted-left : 16 * sum_below (res_of st) st.components ≤ length table → room_for room n ≡ true

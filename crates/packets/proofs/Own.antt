@@ -128,7 +128,7 @@ module _ (sheet table marks : List ℕ) (bytes : Bytes sheet) (p : Passed sheet 
   unfolding reported
   own-alike =
       let a = setup-alike sheet bytes (read-good sheet p.read) table room in
-      record { resolutions = λ c. refl; components = refl; same_x = a.same_x; same_y = a.same_y }
+      record { resolutions = refl; components = refl; same_x = a.same_x; same_y = a.same_y }
 
   own-good : Good (sheet_of sheet)
   own-good =

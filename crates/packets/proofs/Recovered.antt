@@ -2,7 +2,7 @@
 use Rattle.std.specs.Prelude.{◌≡◌, true}
 use Rattle.std.proofs.Math.Path.{sym, ap}
 use Rattle.std.proofs.Common.{◌∙◌}
-use mathlib.Core.List.{List}
+use mathlib.Core.List.{List, map}
 use Prim.Native.Nat.{ℕ, zero, suc, ◌+◌, ◌-◌, ◌*◌, ◌<◌}
 use native.Mathlib.Omega.{arith}
 use Rattle.std.proofs.Math.ListN.{length, get_or, take}
@@ -71,7 +71,7 @@ module _ (st : State) (table marks : List ℕ) (formed : Formed st) (sound : Sou
   unfolding fields_of
   alike =
       record {
-        resolutions = of_component (λ (t : Component). t.resolutions);
+        resolutions = ap (map (λ (t : Component). t.resolutions)) comps_same;
         components = sym (tile 6 (omega arith));
         same_x =
             λ c r h l.

@@ -101,7 +101,7 @@ module _ (b : List ℕ) (small : Bytes b) (good : Read b) (old : List ℕ) (room
 
   pub setup-alike : Alike t s
   unfolding reported fields_of
-  setup-alike = record { resolutions = λ c. refl; components = refl; same_x = same-line_x; same_y = same-line_y }
+  setup-alike = record { resolutions = refl; components = refl; same_x = same-line_x; same_y = same-line_y }
 
   table-sound : table_sound state table ≡ true
   unfolding table_sound reported fields_of entries_before

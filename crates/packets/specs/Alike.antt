@@ -1,28 +1,34 @@
 -- Sheets whose resolutions see the same axes: what setup reports and whether the grid is agreed depend on these alone. Assumes nothing.
-use Rattle.std.specs.Prelude.{◌≡◌, refl, Bool, true, false, cond, ◌&&◌, ◌||◌, not, ℕ, ◌+◌, ◌-◌, ◌%◌, ◌≤◌, ◌<◌, get_or, ltb}
+use Rattle.std.specs.Prelude.{◌≡◌, refl, Bool, true, false, cond, ◌&&◌, ◌||◌, not, ℕ, ◌+◌, ◌-◌, ◌%◌, ◌≤◌, ◌<◌, List, get_or, ltb}
 use Rattle.std.proofs.Math.Path.{ap}
-use Rattle.std.proofs.Common.{◌∙◌, arith, leb-true}
+use Rattle.std.proofs.Common.{sym, ◌∙◌, arith, leb-true}
 use Rattle.std.proofs.Math.Dec.{leb, eqb}
+use Rattle.std.proofs.Math.ListN.{get_or-map}
 use Rattle.laws.specs.Cases.{and_true, asked-same}
 use Rattle.laws.specs.Below.{all_below, min_below}
 use Rattle.laws.specs.Pointwise.{all-same, max-same, min-same}
 use Rattle.geometry.specs.Line.{Line, step}
-use Rattle.types.specs.State.{no_progression}
-use Rattle.packets.specs.Tile.{Sheet, res_of, line_x, line_y, precincts, max_prec, max_res, dx_min, dy_min, fitting}
+use Rattle.types.specs.State.{no_component, no_progression}
+use Rattle.packets.specs.Tile.{Sheet, res_of, resolutions_of, line_x, line_y, precincts, max_prec, max_res, dx_min, dy_min, fitting}
 use Rattle.types.specs.Orders.{order_of, whole_tile, volume, range_of, components_good}
 use Rattle.types.specs.declared.order.Order.{Order}
 use Rattle.types.specs.declared.order.Order.TheVariants.{Lrcp as lrcp, Rlcp as rlcp, Rpcl as rpcl, Pcrl as pcrl, Cprl as cprl, NoPositions as other}
 use Rattle.types.specs.declared.order.Range.{Range}
+use Rattle.types.specs.declared.state.Component.{Component}
 use Rattle.types.specs.declared.state.State.{State}
 use Rattle.types.specs.declared.state.Progression.{Progression}
 use Rattle.packets.specs.Grid.{everywhere, step_x, step_y, smallest, steps_fit, steps_divide, agreed, agreed_for, change_of, grid_agreed}
 
 -- two sheets with the same tile and components, whose resolutions see the same axes
 pub record Alike (s t : Sheet) : Type 0 where
-  pub resolutions : (c : ℕ) → res_of s.st c ≡ res_of t.st c
+  pub resolutions : resolutions_of s.st ≡ resolutions_of t.st
   pub components : s.st.components ≡ t.st.components
   pub same_x : (c r : ℕ) → c < s.st.components → r < res_of s.st c → line_x s c r ≡ line_x t c r
   pub same_y : (c r : ℕ) → c < s.st.components → r < res_of s.st c → line_y s c r ≡ line_y t c r
+
+-- component c's number is at place c of these
+res_listed : (st : State) (c : ℕ) → get_or (resolutions_of st) c 0 ≡ res_of st c
+res_listed st c = get_or-map (λ (t : Component). t.resolutions) st.comps c no_component
 
 -- the component range of a progression
 range_from : (a b : State) (q : Progression) → (range_of a q).compno0 ≡ (range_of b q).compno0
@@ -43,7 +49,7 @@ range_to a b q e = by (eqb q.kind 5)
 
 module _ (s t : Sheet) (a : Alike s t) where
   res_same : (c : ℕ) → res_of s.st c ≡ res_of t.st c
-  res_same = a.resolutions
+  res_same c = sym (res_listed s.st c) ∙ ap (λ (l : List ℕ). get_or l c 0) a.resolutions ∙ res_listed t.st c
 
   -- what holds of each resolution of a component and of each component, the largest and the smallest of them
   one-over : (c : ℕ) (f g : ℕ → Bool) → ((r : ℕ) → r < res_of s.st c → f r ≡ g r) → all_below f (res_of s.st c) ≡ all_below g (res_of t.st c)

@@ -1,6 +1,6 @@
 -- The tile as a sheet describes it: the bounds and precincts of every component and resolution (01, 'Geometry'; T.800 B.3, B.5, B.6), what setup reports,
 -- strides, marks needed, and the mark of a position.
-use Rattle.std.specs.Prelude.{ℕ, ◌+◌, ◌-◌, ◌*◌, ◌/◌, ◌%◌, cond, get_or, ltb, leb}
+use Rattle.std.specs.Prelude.{ℕ, ◌+◌, ◌-◌, ◌*◌, ◌/◌, ◌%◌, cond, List, map, get_or, ltb, leb}
 use Rattle.laws.specs.Below.{max_below, min_below, sum_below}
 use Rattle.geometry.specs.Line.{Line, step, count, cell_low, cell_high}
 use Rattle.geometry.specs.declared.tile.Area.{Area}
@@ -28,6 +28,10 @@ dy_of st c = (component_of st c).dy
 
 abbrev pub res_of : State → ℕ → ℕ
 res_of st c = (component_of st c).resolutions
+
+-- the numbers of resolutions of all components, one for each place of the state's array
+abbrev pub resolutions_of : State → List ℕ
+resolutions_of st = map (λ (t : Component). t.resolutions) st.comps
 
 -- 01: level = resolutions - 1 - resno, of the component
 abbrev pub level_of : State → ℕ → ℕ → ℕ

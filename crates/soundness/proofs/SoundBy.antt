@@ -129,7 +129,7 @@ module _ (st : State) (table : List ℕ) where
       (λ f.
       let t = tile_some st (and_true (tile_good st) _ fields).0 in
       let exact : capped (max_prec s) ≡ max_prec s = prec_exact s t.0 (some_levels st fields) t.1 f in
-      let whole : (surveyed s).reports ≡ (reported s).reports = rw exact in
+      let whole : (surveyed s).reports ≡ (reported s).reports = rw (f, exact) in
       let all : reports_sound s ≡ true = ap (same_reports st.reports) (sym whole ∙ same) ∙ same_itself st.reports in
       let n = needed-same all in
       rw (all, n, f))
@@ -148,7 +148,7 @@ module _ (st : State) (table : List ℕ) where
       (λ f.
       let t = tile_some st (and_true (tile_good st) _ fields).0 in
       let exact : capped (max_prec s) ≡ max_prec s = prec_exact s t.0 (some_levels st fields) t.1 f in
-      absurd (other (rw exact (sym (same_told st.reports (reported s).reports e)))))
+      absurd (other (rw (f, exact) (sym (same_told st.reports (reported s).reports e)))))
       (λ f. let n = needed-same e in rw (e, n, f)))
       (λ e. rw e)
 

@@ -1,12 +1,14 @@
 -- What the survey finds once every component is passed: each number is the sheet's. Assumes nothing.
-use Rattle.std.specs.Prelude.{Some, get_or}
+use Rattle.std.specs.Prelude.{Some, is_some, get_or}
 use Rattle.std.proofs.Math.Bool.{and-true}
 use mathlib.Core.Path.{◌≡◌, refl, sym, ap, ◌∙◌}
-use mathlib.Core.Bool.{Bool, true, false, ◌&&◌, ◌||◌}
+use mathlib.Core.Bool.{Bool, true, false, cond, ◌&&◌, ◌||◌}
 use mathlib.Core.List.{List}
 use Prim.Native.Nat.{ℕ, ◌+◌, ◌-◌, ◌≤◌, ◌<◌, min}
 use native.Mathlib.Omega.{arith}
+use lib.Dec.{leb}
 use borrow.Author.Tests.{le-leb}
+use Rattle.laws.specs.Cases.{cond-told}
 use Rattle.laws.specs.Below.{all_below, all-at}
 use Rattle.laws.specs.Extremes.{all-and}
 use Rattle.laws.specs.Pointwise.{all-same}
@@ -119,11 +121,13 @@ module _ {e : List ℕ} {p : Places} {check : Bool} {st : State} {here : Places}
       let prec : ℕ = max_prec (sheet_by e p st) in
       let marks : ℕ → ℕ = needed_of st.layers (max_res st) st.components in
       let cut = needed_cut st.layers (max_res st) st.components prec in
+      let few : few_of (marks all.most) ≡ few_of (marks prec) = ap (λ n. few_of (marks n)) prec_is ∙ same-few (marks (capped prec)) (marks prec) cut in
+      let told : is_some (few_of (marks all.most)) ≡ leb (marks prec) 65536 = ap is_some few ∙ cond-told is_some _ _ _ refl refl in
       rw (good_is h, res_is)
       (λ i.
       Some
       (record {
         grid = grid_is i;
-        needed = (ap (λ n. few_of (marks n)) prec_is ∙ same-few (marks (capped prec)) (marks prec) cut) i;
-        reports = record { max_prec = prec_is i; max_res = max_res st; dx_min = dx_is i; dy_min = dy_is i };
+        needed = few i;
+        reports = record { max_prec = cond (told i) (prec_is i) 0; max_res = max_res st; dx_min = dx_is i; dy_min = dy_is i };
       }))

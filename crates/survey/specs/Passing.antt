@@ -1,6 +1,6 @@
 -- What the functions of the survey hold while they pass over components and resolutions, over plain numbers.
 -- proofs/Over.antt says what these are of a sheet.
-use Rattle.std.specs.Prelude.{ℕ, zero, suc, ◌+◌, ◌-◌, ◌*◌, ◌%◌, ◌^◌, min, max, Bool, true, false, cond, ◌&&◌, ◌||◌, not, Option, Some, None, List, get_or, leb, eqb}
+use Rattle.std.specs.Prelude.{ℕ, zero, suc, ◌+◌, ◌-◌, ◌*◌, ◌%◌, ◌^◌, min, max, Bool, true, false, cond, ◌&&◌, ◌||◌, not, Option, Some, None, is_some, List, get_or, leb, eqb}
 use Rattle.laws.specs.Below.{all_below, max_below, min_below}
 use Rattle.words.specs.Words.{word_at, four_at}
 use Rattle.words.specs.declared.Four.{Four}
@@ -230,11 +230,17 @@ needed_of layers res components prec = layers * (res * (components * prec))
 unfoldable pub few_marks : ℕ → ℕ → ℕ → ℕ → Option ℕ
 few_marks layers res components prec = few_of (needed_of layers res components prec)
 
--- FINDINGS, from the sums of all components and whether the grid is agreed
+-- FINDINGS, from the sums of all components and whether the grid is agreed; where the marks are not few, no precinct count
 unfoldable pub findings_of : Bool → ℕ → ℕ → ℕ → Sums → Findings
 findings_of grid layers components res all =
     record {
       grid = grid;
       needed = few_marks layers res components all.most;
-      reports = record { max_prec = all.most; max_res = res; dx_min = min 2147483647 all.x_least; dy_min = min 2147483647 all.y_least };
+      reports =
+          record {
+            max_prec = cond (is_some (few_marks layers res components all.most)) all.most 0;
+            max_res = res;
+            dx_min = min 2147483647 all.x_least;
+            dy_min = min 2147483647 all.y_least;
+          };
     }

@@ -3,7 +3,7 @@
 use Rattle.std.specs.Prelude.{◌≡◌, Bool, ◌&&◌, length, eqb}
 use Rattle.std.proofs.Math.Path.{refl, fun_ext}
 use Rattle.std.proofs.Common.{ap, ◌∙◌, le-mul_of_pos_right, mul_comm}
-use Rattle.std.proofs.Math.Bool.{true, false}
+use Rattle.std.proofs.Math.Bool.{true, false, cond}
 use Rattle.std.specs.Prelude.{Some}
 use mathlib.Core.List.{List, [], ◌∷◌}
 use Prim.Native.Nat.{ℕ, zero, suc, ◌+◌, ◌*◌, ◌≤◌, ◌<◌}
@@ -89,7 +89,7 @@ module _ (b : List ℕ) where
   unfolding fields_of
   survey_records =
       record {
-        resolutions = λ c. refl;
+        resolutions = refl;
         components = refl;
         same_x = λ c r h k. λ i. record { t0 = there.st.tx0; t1 = there.st.tx1; d = dx_of there.st c; level = level_of there.st c r; pd = record_x c r h i };
         same_y = λ c r h k. λ i. record { t0 = there.st.ty0; t1 = there.st.ty1; d = dy_of there.st c; level = level_of there.st c r; pd = record_y c r h i };
@@ -135,7 +135,7 @@ module _ (b : List ℕ) where
         (record {
           grid = grid i;
           needed = few_of (marks (prec i));
-          reports = record { max_prec = capped (prec i); max_res = max_res (fields_of b); dx_min = x i; dy_min = y i };
+          reports = record { max_prec = cond (leb (marks (prec i)) 65536) (capped (prec i)) 0; max_res = max_res (fields_of b); dx_min = x i; dy_min = y i };
         }))
 
     -- and what it keeps is the sheet's table

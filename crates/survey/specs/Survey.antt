@@ -37,14 +37,20 @@ survey_good e at check st =
     leb st.components 16
     && (all_below (λ c. component_range (dx_of st c) (dy_of st c) (res_of st c)) st.components && everywhere st (entry_good e at check st))
 
--- whether the grid is agreed for every progression, the marks needed, if they are at most 65,536, and the reports (with 0 layers any number of precincts takes
--- 0 marks, so that their count is cut off)
+-- whether the grid is agreed for every progression, the marks needed, if they are at most 65,536 (else none, and no precinct count; with 0 layers any number of
+-- precincts takes 0 marks, so that their count is cut off), and the reports
 abbrev pub surveyed : Sheet → Findings
 surveyed s =
     record {
       grid = grid_agreed s;
       needed = few_of (needed (reported s));
-      reports = record { max_prec = capped (max_prec s); max_res = max_res s.st; dx_min = dx_min s; dy_min = dy_min s };
+      reports =
+          record {
+            max_prec = cond (leb (needed (reported s)) 65536) (capped (max_prec s)) 0;
+            max_res = max_res s.st;
+            dx_min = dx_min s;
+            dy_min = dy_min s;
+          };
     }
 
 -- of what is out of range nothing is found

@@ -8,11 +8,17 @@ use types::state::State;
 // As good as every number above.
 const TOO_MANY: u32 = State::MAX_MARKS + 1;
 
-// a · b, or 65,537 where it is more.
+// a · b in 32 bits, or 65,537 where it is more: of two factors above 256 it is, and by 256 or less the other may be cut off before.
 pub(crate) fn times(a: u32, b: u32) -> u32
     ensures { result ≡ capped (a * b) }
 {
-    (a as u64 * b as u64).min(TOO_MANY as u64) as u32
+    if a <= 256 {
+        return (a * b.min(TOO_MANY)).min(TOO_MANY);
+    }
+    if b <= 256 {
+        return (b * a.min(TOO_MANY)).min(TOO_MANY);
+    }
+    TOO_MANY
 }
 
 // The marks needed (01, 'Strides'), layers · res · components · prec; none where they are more than 65,536.

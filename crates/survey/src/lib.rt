@@ -38,7 +38,7 @@ pub struct Findings {
     pub grid: bool,
     // the marks needed; none where they are more than 65,536
     pub needed: Option<u32>,
-    // a largest precinct count above 65,537 is 65,537
+    // where no marks are told, the largest precinct count is 0; one above 65,537 is 65,537
     pub reports: Reports,
 }
 
@@ -47,11 +47,12 @@ impl Findings {
     fn of(grid: bool, layers: u32, components: u32, res: u32, all: Sums) -> Self
         ensures { result ≡ findings_of grid layers components res all }
     {
+        let needed = capped::marks(layers, res, components, all.most);
         Findings {
             grid,
-            needed: capped::marks(layers, res, components, all.most),
+            needed,
             reports: Reports {
-                max_prec: all.most,
+                max_prec: if needed.is_some() { all.most } else { 0 },
                 max_res: res,
                 dx_min: all.x_least.min(0x7fff_ffff),
                 dy_min: all.y_least.min(0x7fff_ffff),
