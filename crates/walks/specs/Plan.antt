@@ -1,5 +1,5 @@
 -- The plan of a progression, made once: its order and its walk; what it is planned from, and what it goes over. Assumes nothing.
-use Rattle.std.specs.Prelude.{◌≡◌, refl, Bool, true, false, cond, ◌&&◌, ℕ, ◌≤◌, ◌<◌, ltb, Option}
+use Rattle.std.specs.Prelude.{◌≡◌, refl, Bool, true, false, cond, ◌&&◌, ℕ, ◌≤◌, ◌<◌, min, ltb, Option}
 use Rattle.std.proofs.Common.{sym, ap, ◌∙◌, true≢false, arith, lt-ltb}
 use mathlib.Core.List.Memᴰ.{head as here}
 use mathlib.Core.List.Memᴰ.{not-nil as not_in_nil}
@@ -61,9 +61,11 @@ walk_for st g v =
 abbrev pub goes_over : State → Progression → Range
 goes_over st q = ended_at st.reports.max_res (range_of st q)
 
--- whether a range admits a position: there are precincts and layers, and its components are good
+-- whether a range can admit a position: there are precincts, layers, resolutions and components, and its components are good
 abbrev pub admits : State → Range → Bool
-admits st g = ltb 0 st.reports.max_prec && (ltb 0 g.layno1 && components_good st g)
+admits st g =
+    ltb 0 st.reports.max_prec
+    && (ltb 0 g.layno1 && (ltb g.resno0 (min g.resno1 st.reports.max_res) && (ltb g.compno0 g.compno1 && components_good st g)))
 
 -- the order to walk in: none where no position is admitted
 unfoldable pub order_in : State → Progression → Order
@@ -144,7 +146,10 @@ module _ (st : State) (table : List ℕ) (k : ℕ) (plan : Plan) (marks : List �
     is_order_lem = d.order ∙ sym (order_admitted st q admitted)
 
     fine : components_good st range ≡ true
-    fine = (and_true (ltb 0 range.layno1) _ (and_true (ltb 0 st.reports.max_prec) _ admitted).1).1
+    fine =
+        let layers = (and_true (ltb 0 st.reports.max_prec) _ admitted).1 in
+        let resolutions = (and_true (ltb 0 range.layno1) _ layers).1 in
+        (and_true (ltb range.compno0 range.compno1) _ (and_true (ltb range.resno0 range.resno1) _ resolutions).1).1
 
     ranged : Ranged sheet range plan.walk marks
     ranged =
@@ -208,10 +213,17 @@ module _ (st : State) (table : List ℕ) (k : ℕ) (plan : Plan) (marks : List �
 
   -- A PLAN WITHOUT ONE has no positions
   some_admitted : (p : Position) → In p (positions_for st table k) → admits st (range_of st q) ≡ true
+  unfolding max_res
   some_admitted p i =
       let g : Range = range_of st q in
-      and_both (lt-ltb 0 st.reports.max_prec (omega (arith, below_most sheet good p (inside sheet g good o p i))))
-      (and_both (lt-ltb 0 g.layno1 (omega (arith, (in_range_lem sheet g o p i).layer))) (has-good sheet g o ((in_positions sheet g o p).0 i).0))
+      let r = in_range_lem sheet g o p i in
+      let n = inside sheet g good o p i in
+      let within : p.resno < res_of st p.compno = n.resolution in
+      let deep : res_of st p.compno ≤ st.reports.max_res = omega (arith, d.sound.deepest, max-at (res_of st) st.components p.compno n.component) in
+      and_both (lt-ltb 0 st.reports.max_prec (omega (arith, below_most sheet good p n)))
+      (and_both (lt-ltb 0 g.layno1 (omega (arith, r.layer)))
+      (and_both (lt-ltb g.resno0 _ (omega (arith, r.resolution_from, r.resolution_to, within, deep)))
+      (and_both (lt-ltb g.compno0 g.compno1 (omega (arith, r.component_from, r.component_to))) (has-good sheet g o ((in_positions sheet g o p).0 i).0))))
 
   pub planned_none : plan.order ≡ other → positions_for st table k ≡ []
   planned_none e =

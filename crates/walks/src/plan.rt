@@ -41,11 +41,16 @@ fn walk_of(st: State, g: Range, viewer: u32) -> Walk
     }
 }
 
-// Whether a range admits a position: there are precincts and layers, and it names only components that there are.
+// Whether a range can admit a position: there are precincts, layers, resolutions and components, and it names only components that there are. So no walk goes
+// over layers or resolutions with nothing inside.
 fn some_admitted(st: State, g: Range) -> bool
     ensures { result ≡ admits st g }
 {
-    0 < st.reports.max_prec && 0 < g.layno1 && g.components_good(st)
+    0 < st.reports.max_prec
+        && 0 < g.layno1
+        && g.resno0 < g.resno1.min(st.reports.max_res)
+        && g.compno0 < g.compno1
+        && g.components_good(st)
 }
 
 // The plan of progression k of a state, for a viewer.
