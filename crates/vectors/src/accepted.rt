@@ -3,7 +3,7 @@
 use crate::buffer::{Buffer, MARKS, TABLE};
 use crate::bytes::Bytes;
 use crate::check::{Wrong, check};
-use crate::lent::{Largest, Lent};
+use crate::lent::{Lent, refuses};
 use crate::tile::Tile;
 use crate::{walked, whole};
 use types::state::Reports;
@@ -83,10 +83,10 @@ impl<'a> Case<'a> {
         let table = self.table.len();
         let marks = self.needed as usize;
         let short = table.checked_sub(1).ok_or(Wrong)?;
-        Largest::new(short, marks).refuses(self.sheet, -7)?;
+        refuses(self.sheet, short, marks, -7)?;
         if let Some(short) = marks.checked_sub(1) {
-            Largest::new(table, short).refuses(self.sheet, -6)?;
-            Largest::new(0, short).refuses(self.sheet, -6)?;
+            refuses(self.sheet, table, short, -6)?;
+            refuses(self.sheet, 0, short, -6)?;
         }
         Ok(())
     }

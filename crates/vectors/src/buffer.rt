@@ -1,4 +1,5 @@
-// What is lent stands in a larger buffer, between guard bytes that must not change.
+// What is lent stands in a larger buffer, between guard bytes that must not change. Functions that hold large ones are kept out of line (`inline(never)`), so
+// that those of one kind of case do not stand on the stack beside another's.
 
 // A buffer is filled with this before a call.
 const FILL: u8 = 0xa5;

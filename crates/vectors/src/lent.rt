@@ -16,6 +16,15 @@ pub(crate) struct Lent<const T: usize, const M: usize> {
 // Room for whatever a sheet may need.
 pub(crate) type Largest = Lent<TABLE, MOST_MARKS>;
 
+// Setup with so many bytes and marks lent refuses with this number, and changes nothing.
+#[inline(never)]
+pub(crate) fn refuses(sheet: &[u8], table: usize, marks: usize, number: i32) -> Result<(), Wrong> {
+    let before = Largest::new(table, marks);
+    let mut lent = before;
+    check(lent.setup(sheet).is_err_and(|e| e as i32 == number))?;
+    check(lent == before)
+}
+
 impl<const T: usize, const M: usize> Lent<T, M> {
     pub(crate) fn new(table_bytes: usize, mark_bytes: usize) -> Self {
         Lent {
@@ -36,13 +45,6 @@ impl<const T: usize, const M: usize> Lent<T, M> {
         let table = self.table.first_mut(self.table_bytes);
         let marks = self.marks.first_mut(self.mark_bytes);
         calls::setup::setup(sheet, table, marks)
-    }
-
-    // Setup refuses with this number, and changes nothing.
-    pub(crate) fn refuses(mut self, sheet: &[u8], number: i32) -> Result<(), Wrong> {
-        let before = self;
-        check(self.setup(sheet).is_err_and(|e| e as i32 == number))?;
-        check(self == before)
     }
 
     // The whole run, with so many bytes of the output lent.

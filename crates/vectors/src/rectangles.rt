@@ -20,6 +20,7 @@ fn answered(st: State, mut table: Buffer<TABLE>, question: &[u8]) -> Result<(), 
     check(said.map_err(|e| e as i32) == stored(number, bytes.words()))
 }
 
+#[inline(never)]
 pub(crate) fn replay(record: &[u8], tally: &mut Tally<'_, impl Print>) -> io::Result<()> {
     let mut bytes = Bytes(record);
     let [sheet, marks, table, questions] = bytes.words::<4>();

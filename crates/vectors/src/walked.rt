@@ -54,6 +54,7 @@ impl Walk<'_> {
 
 // All the stored packets are listed and no other, the marks are as expected, the total goes from all of them to 0, and there is no progression more
 // than there are: -11.
+#[inline(never)]
 pub(crate) fn replay(case: &Case<'_>) -> Result<(), Wrong> {
     let tile = case.tile()?;
     let first = tile.followed;
