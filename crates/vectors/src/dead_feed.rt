@@ -18,6 +18,7 @@ const SHEET: [[u32; 8]; 5] = [
 ];
 
 // Both steps answer 0, with the ended cursor.
+#[inline(never)]
 fn stays_dead() -> Result<(), Wrong> {
     let mut sheet = [0u8; 160];
     for (i, word) in SHEET.as_flattened().iter().enumerate() {
