@@ -42,7 +42,7 @@ fn walk_of(st: State, g: Range, viewer: u32) -> Walk
 }
 
 // Whether a range can admit a position: there are precincts, layers, resolutions and components, and it names only components that there are. So no walk goes
-// over layers or resolutions with nothing inside.
+// over the layers of a range that has no resolution or no component.
 fn some_admitted(st: State, g: Range) -> bool
     ensures { result ≡ admits st g }
 {
